@@ -1,0 +1,22 @@
+#!/usr/bin/env bash
+# The whole check: `rt ci` from nothing, then the tests that need no proof.
+# The last line of `rt ci` is held back and printed last, only if everything passed.
+set -u
+cd "$(dirname "$0")/.." || exit 1
+failed=0
+fail() {
+    printf 'FAILED: %s\n' "$1" >&2
+    failed=1
+}
+
+verdict=$(mktemp)
+trap 'rm -f "$verdict"' EXIT
+rt ci 2>&1 | awk -v verdict="$verdict" 'NR > 1 { print last; fflush() } { last = $0 } END { print last > verdict }'
+[ "${PIPESTATUS[0]}" -eq 0 ] || fail 'rt ci'
+grep -Eqx '[0-9]+ passed, 0 failed' "$verdict" || fail "rt ci ended with: $(cat "$verdict")"
+
+rt fmt --check || fail 'rt fmt --check: a file is not in the layout (mend with: rt fmt)'
+bash tests/specification.sh || fail 'tests/specification.sh: docs/SPECIFICATION.md and the definitions differ'
+
+[ "$failed" -eq 0 ] || exit 1
+cat "$verdict"
