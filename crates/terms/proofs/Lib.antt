@@ -1,0 +1,5 @@
+pub mod Begins
+pub mod Lists
+pub mod Lowest
+pub mod Parts
+pub mod Tests

@@ -1,0 +1,3 @@
+pub mod CodePoints
+pub mod Lists
+pub mod Refusals

@@ -1,0 +1,93 @@
+// The terms that all crates share (document 01): the kinds of number that must not be mixed, refusals, limits.
+//
+// One function stands here, since table, utf8 and ucd all ask it: whether a number is scalar.
+ghost use mathlib.Core.Path.{_≡_};
+ghost use Rattle.terms.specs.CodePoints.{scalar};
+
+// A code point's number: "Code point numbers and octet positions are counted apart".
+pub struct CodePoint(pub u32);
+
+// A position in a key, in octets from its start.
+pub struct KeyPosition(pub usize);
+
+// A position in a text, in octets from its start.
+pub struct TextPosition(pub usize);
+
+// Why a call is refused: the number of document 01's table, which text (1 or 2, 0 neither), and the detail.
+pub struct Refusal {
+    pub number: u32,
+    pub place: u32,
+    pub detail: u64,
+}
+
+// The collations, by their numbers.
+pub const OCTET: u32 = 1;
+
+pub const ASCII_CASEMAP: u32 = 2;
+
+pub const UNICODE_CASEMAP: u32 = 3;
+
+// The longest text that is taken, in octets.
+pub const TEXT_MOST: usize = 4096;
+// The most entries of a table, and the most numbers of a pool.
+pub const ENTRIES_MOST: usize = 16384;
+
+pub const POOL_MOST: usize = 65536;
+// The most parts of one decomposition.
+pub const PARTS_MOST: usize = 32;
+// The most levels, and the most code points of a full decomposition, of a code point in an accepted table.
+pub const LEVELS_MOST: usize = 8;
+
+pub const FULL_MOST: usize = 32;
+// The longest line of UnicodeData.txt that is taken, in octets.
+pub const LINE_MOST: usize = 512;
+
+// The refusal numbers of document 01.
+pub const REFUSED_COLLATION: u32 = 1;
+
+pub const REFUSED_TEXT_LENGTH: u32 = 2;
+
+pub const REFUSED_TABLE_SIZE: u32 = 3;
+
+pub const REFUSED_CODE_POINT: u32 = 4;
+
+pub const REFUSED_ENTRY: u32 = 5;
+
+pub const REFUSED_POOL_NUMBER: u32 = 6;
+
+pub const REFUSED_LEVEL: u32 = 7;
+
+pub const REFUSED_KEY_ROOM: u32 = 8;
+
+pub const REFUSED_NO_TAB: u32 = 9;
+
+pub const REFUSED_LINE_LENGTH: u32 = 20;
+
+pub const REFUSED_FIELD_COUNT: u32 = 21;
+
+pub const REFUSED_FIELD_0: u32 = 22;
+
+pub const REFUSED_FIELD_5: u32 = 23;
+
+pub const REFUSED_FIELD_14: u32 = 24;
+
+pub const REFUSED_SURROGATE: u32 = 25;
+
+pub const REFUSED_ORDER: u32 = 26;
+
+pub const REFUSED_NO_ROOM: u32 = 27;
+
+pub const REFUSED_STATE: u32 = 28;
+
+// Whether a number is a scalar code point.
+pub fn is_scalar(c: u32) -> bool
+    ensures { λ r. ⌜ r ≡ scalar c ⌝ }
+{
+    if c < 0xD800 {
+        return true;
+    }
+    if c <= 0xDFFF {
+        return false;
+    }
+    c <= 0x10FFFF
+}
