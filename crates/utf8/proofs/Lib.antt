@@ -1,0 +1,4 @@
+pub mod Characters
+pub mod Decode
+pub mod Encode
+pub mod Fronts

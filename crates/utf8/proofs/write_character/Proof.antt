@@ -1,0 +1,244 @@
+-- `utf8::write_character` meets its contract: at each return the tests that led there say which octets `encode` gives, and
+-- these are what was stored.
+-- Assumes nothing.
+use mathlib.Core.Path.{_≡_, sym, ap}
+use Prim.Native.Nat.{_≤_, _+_, _/_, _%_}
+use mathlib.Core.List.{[], _∷_}
+use native.Mathlib.Omega.{arith}
+use borrow.Author.Needs.{needs}
+use lib.ListN.{length, length-set}
+use Rattle.utf8.specs.Utf8.{encode}
+use Rattle.utf8.proofs.Encode.{encode-one, encode-two, encode-three, encode-four}
+use Rattle.utf8.proofs.Fronts.{over-one, over-two, over-three, over-four}
+use Rattle.utf8.proofs.write_character.Statement.{statement}
+use Rattle.utf8.proofs.write_character.Tie as tie
+
+-- the octets of the code point in each case, and that there is room for them
+one : (c : tie.Then1) → encode (c .before .args .c .0) ≡ c .before .args .c .0 ∷ []
+one c = encode-one (c .before .args .c .0) (c .if1 .taken)
+
+one-room : (c : tie.Then1) → 1 ≤ length (c .before .args .out .now)
+one-room c = omega (arith, ap length (one c))
+
+two : (c : tie.Then2)
+    → let n = c .before .before .args .c .0 in
+    encode n ≡ (0xC0 + n / 64) ∷ (0x80 + n % 64) ∷ []
+two c = encode-two (c .before .before .args .c .0) (c .before .if1 .left) (c .if2 .taken)
+
+two-room : (c : tie.Then2) → 2 ≤ length (c .before .before .args .out .now)
+two-room c = omega (arith, ap length (two c))
+
+three : (c : tie.Then3)
+    → let n = c .before .before .before .args .c .0 in
+    encode n ≡ (0xE0 + n / 4096) ∷ (0x80 + n / 64 % 64) ∷ (0x80 + n % 64) ∷ []
+three c = encode-three (c .before .before .before .args .c .0) (c .before .if2 .left) (c .if3 .taken)
+
+three-room : (c : tie.Then3) → 3 ≤ length (c .before .before .before .args .out .now)
+three-room c = omega (arith, ap length (three c))
+
+four : (c : tie.Else3)
+    → let n = c .before .before .before .args .c .0 in
+    encode n ≡ (0xF0 + n / 262144) ∷ (0x80 + n / 4096 % 64) ∷ (0x80 + n / 64 % 64) ∷ (0x80 + n % 64) ∷ []
+four c = encode-four (c .before .before .before .args .c .0) (c .if3 .left)
+
+four-room : (c : tie.Else3) → 4 ≤ length (c .before .before .before .args .out .now)
+four-room c = omega (arith, ap length (four c))
+
+cast-out : tie.Need-cast-out
+cast-out c = search needs
+
+-- the octet
+slice-write-out : tie.Need-slice-write-out
+slice-write-out c = omega (arith, one-room c)
+
+same-length : tie.Need-same-length
+same-length c = search needs
+
+-- below 80
+returns : tie.Need-returns
+returns c =
+    let n = c .before .args .c .0 in
+    record { count = sym (ap length (one c)); octets = rw (one c) (over-one n (c .before .args .out .now) (one-room c)) }
+
+add-out : tie.Need-add-out
+add-out c = search needs
+
+cast-out-2 : tie.Need-cast-out-2
+cast-out-2 c = search needs
+
+-- the first of two
+slice-write-out-2 : tie.Need-slice-write-out-2
+slice-write-out-2 c = omega (arith, two-room c)
+
+add-out-2 : tie.Need-add-out-2
+add-out-2 c = search needs
+
+cast-out-3 : tie.Need-cast-out-3
+cast-out-3 c = search needs
+
+-- the second of two
+slice-write-out-3 : tie.Need-slice-write-out-3
+slice-write-out-3 c = simp length-set (omega (arith, two-room c))
+
+same-length-2 : tie.Need-same-length-2
+same-length-2 c = search needs
+
+-- below 800
+returns-2 : tie.Need-returns-2
+returns-2 c =
+    let a = c .before .before .args in
+    let n = a .c .0 in
+    record {
+      count = sym (ap length (two c));
+      octets = rw (two c) (over-two (0xC0 + n / 64) (0x80 + n % 64) (a .out .now) (two-room c));
+    }
+
+add-out-3 : tie.Need-add-out-3
+add-out-3 c = search needs
+
+cast-out-4 : tie.Need-cast-out-4
+cast-out-4 c = search needs
+
+-- the first of three
+slice-write-out-4 : tie.Need-slice-write-out-4
+slice-write-out-4 c = omega (arith, three-room c)
+
+add-out-4 : tie.Need-add-out-4
+add-out-4 c = search needs
+
+cast-out-5 : tie.Need-cast-out-5
+cast-out-5 c = search needs
+
+-- the second of three
+slice-write-out-5 : tie.Need-slice-write-out-5
+slice-write-out-5 c = simp length-set (omega (arith, three-room c))
+
+add-out-5 : tie.Need-add-out-5
+add-out-5 c = search needs
+
+cast-out-6 : tie.Need-cast-out-6
+cast-out-6 c = search needs
+
+-- the third of three
+slice-write-out-6 : tie.Need-slice-write-out-6
+slice-write-out-6 c = simp length-set (omega (arith, three-room c))
+
+same-length-3 : tie.Need-same-length-3
+same-length-3 c = search needs
+
+-- below 10000
+returns-3 : tie.Need-returns-3
+returns-3 c =
+    let a = c .before .before .before .args in
+    let n = a .c .0 in
+    record {
+      count = sym (ap length (three c));
+      octets =
+          rw
+          (three c)
+          (over-three (0xE0 + n / 4096) (0x80 + n / 64 % 64) (0x80 + n % 64) (a .out .now) (three-room c));
+    }
+
+add-out-6 : tie.Need-add-out-6
+add-out-6 c = search needs
+
+cast-out-7 : tie.Need-cast-out-7
+cast-out-7 c = search needs
+
+-- the first of four
+slice-write-out-7 : tie.Need-slice-write-out-7
+slice-write-out-7 c = omega (arith, four-room c)
+
+add-out-7 : tie.Need-add-out-7
+add-out-7 c = search needs
+
+cast-out-8 : tie.Need-cast-out-8
+cast-out-8 c = search needs
+
+-- the second of four
+slice-write-out-8 : tie.Need-slice-write-out-8
+slice-write-out-8 c = simp length-set (omega (arith, four-room c))
+
+add-out-8 : tie.Need-add-out-8
+add-out-8 c = search needs
+
+cast-out-9 : tie.Need-cast-out-9
+cast-out-9 c = search needs
+
+-- the third of four
+slice-write-out-9 : tie.Need-slice-write-out-9
+slice-write-out-9 c = simp length-set (omega (arith, four-room c))
+
+add-out-9 : tie.Need-add-out-9
+add-out-9 c = search needs
+
+cast-out-10 : tie.Need-cast-out-10
+cast-out-10 c = search needs
+
+-- the fourth of four
+slice-write-out-10 : tie.Need-slice-write-out-10
+slice-write-out-10 c = simp length-set (omega (arith, four-room c))
+
+same-length-4 : tie.Need-same-length-4
+same-length-4 c = search needs
+
+-- from 10000 on
+returns-4 : tie.Need-returns-4
+returns-4 c =
+    let a = c .before .before .before .args in
+    let n = a .c .0 in
+    record {
+      count = sym (ap length (four c));
+      octets =
+          rw
+          (four c)
+          (over-four
+          (0xF0 + n / 262144)
+          (0x80 + n / 4096 % 64)
+          (0x80 + n / 64 % 64)
+          (0x80 + n % 64)
+          (a .out .now)
+          (four-room c));
+    }
+
+pub write-character-spec : {M : Type 1} → statement M
+write-character-spec =
+    tie.close
+    (tie.spec
+    cast-out
+    slice-write-out
+    same-length
+    returns
+    add-out
+    cast-out-2
+    slice-write-out-2
+    add-out-2
+    cast-out-3
+    slice-write-out-3
+    same-length-2
+    returns-2
+    add-out-3
+    cast-out-4
+    slice-write-out-4
+    add-out-4
+    cast-out-5
+    slice-write-out-5
+    add-out-5
+    cast-out-6
+    slice-write-out-6
+    same-length-3
+    returns-3
+    add-out-6
+    cast-out-7
+    slice-write-out-7
+    add-out-7
+    cast-out-8
+    slice-write-out-8
+    add-out-8
+    cast-out-9
+    slice-write-out-9
+    add-out-9
+    cast-out-10
+    slice-write-out-10
+    same-length-4
+    returns-4)

@@ -1,0 +1,21 @@
+-- What the contracts of the crate say with the definitions of specs/Utf8.antt.
+-- Assumes nothing.
+use mathlib.Core.Path.{_≡_}
+use Prim.Native.Nat.{ℕ}
+use mathlib.Core.Option.{Option, none, some}
+use mathlib.Core.List.{List}
+use lib.ListN.{length}
+use Rattle.terms.specs.Lists.{over}
+use Rattle.utf8.specs.Utf8.{Character, character, encode}
+use Rattle.utf8.specs.declared.Reading.{Reading}
+use Rattle.utf8.specs.declared.Reading.the-variants.{Character as Read, Malformed}
+
+-- the character that a reading is, if it is one
+abbrev pub readingTold : Reading → Option Character
+readingTold (Read c w) = some (character (c .0) w)
+readingTold Malformed = none
+
+-- a code point was written at the start of a slice: how many octets it took, and the slice afterwards
+pub record Written (c : ℕ) (slice : List ℕ) (n : ℕ) (after : List ℕ) : Type 0 where
+  pub count : n ≡ length (encode c)
+  pub octets : after ≡ over (encode c) slice
