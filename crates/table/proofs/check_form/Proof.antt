@@ -1,0 +1,160 @@
+-- `table::check_form` meets its contract: each return follows from what the four checks answered up to there.
+-- Assumes nothing.
+use Prim.Native.Nat.{ℕ}
+use mathlib.Core.Path.{_≡_, refl, sym, ap, _∙_}
+use mathlib.Core.Bool.{Bool, true, false}
+use mathlib.Core.Option.{Option, none}
+use mathlib.Core.List.{List, [], _∷_}
+use lib.ListN.{length}
+use borrow.Author.Needs.{needs}
+use Rattle.terms.specs.Lists.{lowest}
+use Rattle.terms.specs.Refusals.{Told, check, first, answer}
+use Rattle.table.specs.Table.{entryCount, faultySize, faultyCode, entryFault, faultyNumber, refusedAt, formRefusal}
+use Rattle.table.specs.Promises.{checkTold, placeTold}
+use Rattle.table.proofs.Form.{sound-entries}
+use Rattle.table.proofs.check_form.Statement.{statement}
+use Rattle.table.proofs.check_form.Tie as tie
+
+-- the answer that what the four checks found comes to
+abbrev told : Bool → Option ℕ → Option ℕ → Option ℕ → Told
+told b o4 o5 o6 = answer (first (check b 3 0 0 ∷ refusedAt 4 o4 ∷ refusedAt 5 o5 ∷ refusedAt 6 o6 ∷ [])) []
+
+-- the answer, where it is known what the checks found
+answer-told : (es pool : List ℕ) (b : Bool) (o4 o5 o6 : Option ℕ) → faultySize es pool ≡ b
+    → lowest (faultyCode es) (entryCount es) ≡ o4
+    → entryFault es pool ≡ o5
+    → lowest (faultyNumber pool) (length pool) ≡ o6
+    → told b o4 o5 o6 ≡ answer (formRefusal es pool) []
+unfolding formRefusal
+answer-told es pool b o4 o5 o6 e3 e4 e5 e6 = rw (← e3, ← e4, ← e5, ← e6)
+
+-- the slices, seen from past the check of their sizes
+abbrev es : tie.Else1 → List ℕ
+es c = c .before .before .before .before .args .entries .now
+
+abbrev pool : tie.Else1 → List ℕ
+pool c = c .before .before .before .before .args .pool .now
+
+-- what the checks found up to there: nothing
+size : (c : tie.Else1) → faultySize (es c) (pool c) ≡ false
+size c = sym (c .before .is-faulty-size .ensures) ∙ c .if1 .left
+
+codes : (c : tie.After-enum-told) → let s = c .before .before .before in
+    lowest (faultyCode (es s)) (entryCount (es s)) ≡ none
+codes c = sym (c .before .before .faulty-code .ensures) ∙ ap placeTold (c .enum-told .given .1)
+
+entries : (c : tie.After-enum-told2) → let s = c .before .before .before .before .before .before in
+    entryFault (es s) (pool s) ≡ none
+entries c = sym (c .before .before .faulty-entry .ensures) ∙ ap placeTold (c .enum-told2 .given .1)
+
+is-faulty-size-requires : tie.Need-is-faulty-size-requires
+is-faulty-size-requires c κs = search needs
+
+-- refused for its size
+returns : tie.Need-returns
+returns c =
+    let start = c .before .before .before .before in
+    let fault = sym (c .before .is-faulty-size .ensures) ∙ c .if1 .taken in
+    answer-told (start .args .entries .now) (start .args .pool .now) true _ _ _ fault refl refl refl
+
+faulty-code-requires : tie.Need-faulty-code-requires
+faulty-code-requires c κs = search needs
+
+enum-known-i : tie.Need-enum-known-i
+enum-known-i c = search needs
+
+refused-at-requires : tie.Need-refused-at-requires
+refused-at-requires c κs = search needs
+
+-- refused for a code point
+returns-2 : tie.Need-returns-2
+returns-2 c =
+    let at-i = c .before .before in
+    let checked = at-i .before .before in
+    let s = checked .before in
+    let fault = sym (checked .faulty-code .ensures) ∙ ap placeTold (at-i .i .given .1) in
+    ap checkTold (c .refused-at .ensures) ∙ answer-told (es s) (pool s) false _ _ _ (size s) fault refl refl
+
+enum-told : tie.Need-enum-told
+enum-told c = search needs
+
+-- the size was passed
+faulty-entry-requires : tie.Need-faulty-entry-requires
+faulty-entry-requires c κs = let s = c .before .before .before in sound-entries (es s) (pool s) (size s)
+
+enum-known-i-2 : tie.Need-enum-known-i-2
+enum-known-i-2 c = search needs
+
+refused-at-requires-2 : tie.Need-refused-at-requires-2
+refused-at-requires-2 c κs = search needs
+
+-- refused for an entry
+returns-3 : tie.Need-returns-3
+returns-3 c =
+    let at-i = c .before .before in
+    let checked = at-i .before .before in
+    let passed = checked .before in
+    let s = passed .before .before .before in
+    let fault = sym (checked .faulty-entry .ensures) ∙ ap placeTold (at-i .i2 .given .1) in
+    ap checkTold (c .refused-at2 .ensures)
+    ∙ answer-told (es s) (pool s) false none _ _ (size s) (codes passed) fault refl
+
+enum-told-2 : tie.Need-enum-told-2
+enum-told-2 c = search needs
+
+faulty-number-requires : tie.Need-faulty-number-requires
+faulty-number-requires c κs = search needs
+
+enum-known-i-3 : tie.Need-enum-known-i-3
+enum-known-i-3 c = search needs
+
+refused-at-requires-3 : tie.Need-refused-at-requires-3
+refused-at-requires-3 c κs = search needs
+
+-- refused for a pool number
+returns-4 : tie.Need-returns-4
+returns-4 c =
+    let at-i = c .before .before in
+    let checked = at-i .before .before in
+    let passed = checked .before in
+    let past-codes = passed .before .before .before in
+    let s = past-codes .before .before .before in
+    let fault = sym (checked .faulty-number .ensures) ∙ ap placeTold (at-i .i3 .given .1) in
+    ap checkTold (c .refused-at3 .ensures)
+    ∙ answer-told (es s) (pool s) false none none _ (size s) (codes past-codes) (entries passed) fault
+
+enum-told-3 : tie.Need-enum-told-3
+enum-told-3 c = search needs
+
+-- accepted
+returns-5 : tie.Need-returns-5
+returns-5 c =
+    let checked = c .before .before in
+    let passed = checked .before in
+    let past-codes = passed .before .before .before in
+    let s = past-codes .before .before .before in
+    let numbers = sym (checked .faulty-number .ensures) ∙ ap placeTold (c .enum-told3 .given .1) in
+    answer-told (es s) (pool s) false none none none (size s) (codes past-codes) (entries passed) numbers
+
+pub check-form-spec : {M : Type 1} → statement M
+check-form-spec =
+    tie.close
+    (tie.spec
+    is-faulty-size-requires
+    returns
+    faulty-code-requires
+    enum-known-i
+    refused-at-requires
+    returns-2
+    enum-told
+    faulty-entry-requires
+    enum-known-i-2
+    refused-at-requires-2
+    returns-3
+    enum-told-2
+    faulty-number-requires
+    enum-known-i-3
+    refused-at-requires-3
+    returns-4
+    enum-told-3
+    returns-5)

@@ -1,0 +1,3 @@
+pub mod Mapping
+pub mod Table
+pub mod Promises

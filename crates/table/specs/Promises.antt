@@ -1,0 +1,25 @@
+-- The answers of the crate's functions in the paper's numbers, and what the functions on a table of the form ask for.
+-- Assumes nothing.
+use Prim.Native.Nat.{ℕ, suc, _<_}
+use mathlib.Core.Option.{Option, none, some}
+use mathlib.Core.List.{List, []}
+use Rattle.terms.specs.Refusals.{Told, refused, given}
+use Rattle.table.specs.Table.{entryCount, codeAt}
+use Rattle.table.specs.declared.TableCheck.{TableCheck}
+use Rattle.table.specs.declared.TableCheck.the-variants.{Accepted, Refused}
+use Rattle.table.specs.declared.Place.{Place}
+use Rattle.table.specs.declared.Place.the-variants.{At, Nowhere}
+
+-- a table check's answer in the paper's numbers: accepted has no value
+abbrev pub checkTold : TableCheck → Told
+checkTold Accepted = given []
+checkTold (Refused r) = refused r
+
+-- the place that was found, if there is one
+abbrev pub placeTold : Place → Option ℕ
+placeTold (At i) = some i
+placeTold Nowhere = none
+
+-- the code points of the entries ascend
+abbrev pub Ascending : List ℕ → Type 0
+Ascending es = (i : ℕ) → suc i < entryCount es → codeAt es i < codeAt es (suc i)

@@ -1,0 +1,210 @@
+// The mapping table (document 01, "The mapping table"): two lent slices, the entries, four 32-bit numbers each, and the pool.
+//
+// `check_form` takes any two slices. The functions that look up ask for the form, which it decides.
+use terms::CodePoint;
+use terms::Refusal;
+ghost use mathlib.Core.Path.{_≡_};
+ghost use mathlib.Core.Bool.{false};
+ghost use mathlib.Core.List.{[]};
+ghost use mathlib.Core.Option.{none};
+ghost use Prim.Native.Nat.{_<_, _≤_};
+ghost use lib.ListN.{length};
+ghost use Rattle.terms.specs.Lists.{lowest};
+ghost use Rattle.terms.specs.Refusals.{refusal, answer, entriesMost};
+ghost use Rattle.table.specs.Table.{entryCount, countsBelow, faultySize, faultyCode, faultyEntry, entryFault, faultyNumber, formRefusal, entryOf, titleOf, partsOf};
+ghost use Rattle.table.specs.Promises.{checkTold, placeTold, Ascending};
+
+// What the check of a table answers.
+pub enum TableCheck {
+    Accepted,
+    Refused(Refusal),
+}
+
+// Where something is, counted from 0, if it is anywhere.
+pub enum Place {
+    At(usize),
+    Nowhere,
+}
+
+// Whether two slices have the form of a table: one of 3 to 6, or accepted so far.
+pub fn check_form(entries: &[u32], pool: &[u32]) -> TableCheck
+    ensures { λ r. ⌜ checkTold r ≡ answer (formRefusal (now (entries .entry)) (now (pool .entry))) [] ⌝ }
+{
+    if is_faulty_size(entries, pool) {
+        return TableCheck::Refused(Refusal {
+            number: terms::REFUSED_TABLE_SIZE,
+            place: 0,
+            detail: 0,
+        });
+    }
+    if let Place::At(i) = faulty_code(entries) {
+        return refused_at(terms::REFUSED_CODE_POINT, i);
+    }
+    if let Place::At(i) = faulty_entry(entries, pool) {
+        return refused_at(terms::REFUSED_ENTRY, i);
+    }
+    if let Place::At(i) = faulty_number(pool) {
+        return refused_at(terms::REFUSED_POOL_NUMBER, i);
+    }
+    TableCheck::Accepted
+}
+
+// The entry of a code point.
+pub fn find_entry(entries: &[u32], c: CodePoint) -> Place
+    requires { ⌜ Ascending (now entries) ⌝ }
+    ensures { λ r. ⌜ placeTold r ≡ entryOf (now (entries .entry)) (c .0) ⌝ }
+{
+    let sought = c.0;
+    let mut low = 0;
+    let mut high = entries.len() / 4;
+    while low < high {
+        let middle = low + (high - low) / 2;
+        let found = entries[middle * 4];
+        if found == sought {
+            return Place::At(middle);
+        }
+        if found < sought {
+            low = middle + 1;
+        } else {
+            high = middle;
+        }
+    }
+    Place::Nowhere
+}
+
+// The titlecase of a code point, itself if it has none.
+pub fn title_of(entries: &[u32], c: CodePoint) -> CodePoint
+    requires { ⌜ Ascending (now entries) ⌝ }
+    ensures { λ r. ⌜ r .0 ≡ titleOf (now (entries .entry)) (c .0) ⌝ }
+{
+    if let Place::At(i) = find_entry(entries, c) {
+        return CodePoint(entries[i * 4 + 1]);
+    }
+    c
+}
+
+// The decomposition of a code point, as a part of the pool; empty if it has none.
+pub fn parts_of<'a>(entries: &[u32], pool: &'a [u32], c: CodePoint) -> &'a [u32]
+    requires { ⌜ formRefusal (now entries) (now pool) ≡ none ⌝ }
+    ensures { λ r. ⌜ now r ≡ partsOf (now (entries .entry)) (now (pool .entry)) (c .0) ⌝ }
+{
+    if let Place::At(i) = find_entry(entries, c) {
+        let start = entries[i * 4 + 2] as usize;
+        let end = start + entries[i * 4 + 3] as usize;
+        return &pool[start..end];
+    }
+    &pool[..0]
+}
+
+// A refusal that names a place.
+pub fn refused_at(number: u32, i: usize) -> TableCheck
+    ensures { λ r. ⌜ r ≡ TableCheck.Refused (refusal number 0 i) ⌝ }
+{
+    TableCheck::Refused(Refusal {
+        number,
+        place: 0,
+        detail: i as u64,
+    })
+}
+
+// Whether a slice has a length that 3 refuses.
+fn is_faulty_size(entries: &[u32], pool: &[u32]) -> bool
+    ensures { λ r. ⌜ r ≡ faultySize (now (entries .entry)) (now (pool .entry)) ⌝ }
+{
+    if entries.len() % 4 != 0 {
+        return true;
+    }
+    if terms::ENTRIES_MOST < entries.len() / 4 {
+        return true;
+    }
+    terms::POOL_MOST < pool.len()
+}
+
+// Whether 4 refuses an entry.
+fn is_faulty_code(entries: &[u32], i: usize) -> bool
+    requires { ⌜ i < entryCount (now entries) ⌝ }
+    ensures { λ r. ⌜ r ≡ faultyCode (now (entries .entry)) i ⌝ }
+{
+    let c = entries[i * 4];
+    if !terms::is_scalar(c) {
+        return true;
+    }
+    if !terms::is_scalar(entries[i * 4 + 1]) {
+        return true;
+    }
+    if i == 0 {
+        return false;
+    }
+    c <= entries[i * 4 - 4]
+}
+
+// The lowest entry that 4 refuses.
+fn faulty_code(entries: &[u32]) -> Place
+    ensures { λ r. ⌜ placeTold r ≡ lowest (faultyCode (now (entries .entry))) (entryCount (now (entries .entry))) ⌝ }
+{
+    let mut i = 0;
+    while i < entries.len() / 4 {
+        if is_faulty_code(entries, i) {
+            return Place::At(i);
+        }
+        i += 1;
+    }
+    Place::Nowhere
+}
+
+// Whether 5 refuses an entry, `sum` being the sum of all earlier counts.
+fn is_faulty_entry(entries: &[u32], pool: &[u32], i: usize, sum: usize) -> bool
+    requires { ⌜ i < entryCount (now entries) ⌝ }
+    requires { ⌜ sum ≡ countsBelow (now entries) i ⌝ }
+    ensures { λ r. ⌜ r ≡ faultyEntry (now (entries .entry)) (now (pool .entry)) i ⌝ }
+{
+    let start = entries[i * 4 + 2] as usize;
+    let count = entries[i * 4 + 3] as usize;
+    if terms::PARTS_MOST < count {
+        return true;
+    }
+    if start != sum {
+        return true;
+    }
+    if pool.len() < start + count {
+        return true;
+    }
+    if count != 0 {
+        return false;
+    }
+    entries[i * 4 + 1] == entries[i * 4]
+}
+
+// Where 5 finds a fault: the lowest entry, or the number of entries if the pool is longer than all counts.
+fn faulty_entry(entries: &[u32], pool: &[u32]) -> Place
+    requires { ⌜ entryCount (now entries) ≤ entriesMost ⌝ }
+    ensures { λ r. ⌜ placeTold r ≡ entryFault (now (entries .entry)) (now (pool .entry)) ⌝ }
+{
+    let mut sum: usize = 0;
+    let mut i = 0;
+    while i < entries.len() / 4 {
+        if is_faulty_entry(entries, pool, i, sum) {
+            return Place::At(i);
+        }
+        sum += entries[i * 4 + 3] as usize;
+        i += 1;
+    }
+    if sum < pool.len() {
+        return Place::At(i);
+    }
+    Place::Nowhere
+}
+
+// The lowest pool number that 6 refuses.
+fn faulty_number(pool: &[u32]) -> Place
+    ensures { λ r. ⌜ placeTold r ≡ lowest (faultyNumber (now (pool .entry))) (length (now (pool .entry))) ⌝ }
+{
+    let mut i = 0;
+    while i < pool.len() {
+        if !terms::is_scalar(pool[i]) {
+            return Place::At(i);
+        }
+        i += 1;
+    }
+    Place::Nowhere
+}
