@@ -1,0 +1,5 @@
+pub mod Levels
+pub mod Bounds
+pub mod Walk
+pub mod Expansion
+pub mod Demand3

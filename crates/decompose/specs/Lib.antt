@@ -1,0 +1,4 @@
+pub mod Levels
+pub mod Steps
+pub mod TableCheck
+pub mod Promises

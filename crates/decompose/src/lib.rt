@@ -1,0 +1,217 @@
+// Decomposition over a mapping table (document 01, "The mapping table"): the table check, and the size and the octets of one
+// code point's expansion.
+//
+// `check_table` takes any two slices. Its work is bounded on any table: an entry's code point is unfolded until it has taken 32
+// code points or 8 levels, and every code point that is looked up either takes one of the 32 or is split into ones that do;
+// so on each of the levels 0 to 8 at most 33 are looked up, some 300 in all.
+// The functions on one expansion ask for an accepted table.
+use table::Place;
+use table::TableCheck;
+use terms::CodePoint;
+ghost use mathlib.Core.Path.{_≡_};
+ghost use mathlib.Core.Bool.{true};
+ghost use mathlib.Core.List.{[]};
+ghost use mathlib.Core.Option.{none};
+ghost use Prim.Native.Nat.{_≤_};
+ghost use lib.ListN.{length};
+ghost use Rattle.terms.specs.CodePoints.{scalar};
+ghost use Rattle.terms.specs.Lists.{lowest};
+ghost use Rattle.terms.specs.Refusals.{answer};
+ghost use Rattle.utf8.specs.Utf8.{encodes};
+ghost use Rattle.table.specs.Table.{entryCount, refusedAt, formRefusal, mappingOf};
+ghost use Rattle.table.specs.Promises.{checkTold};
+ghost use Rattle.decompose.specs.Levels.{full};
+ghost use Rattle.decompose.specs.Steps.{expanded};
+ghost use Rattle.decompose.specs.TableCheck.{faultyLevel, tableRefusal, tableAnswer};
+ghost use Rattle.decompose.specs.Promises.{measured, measurementTold, Bounded, FullCounted, FullFilled, ExpansionCounted, ExpansionFilled};
+
+// How many code points a code point unfolds into.
+pub enum Measurement {
+    Fits(usize),
+    // More levels or code points than there was room for.
+    TooMuch,
+}
+
+// What unfolding came to: the octets of the code points, and the asks.
+pub struct Unfolded {
+    pub octets: usize,
+    pub asks: u64,
+}
+
+// Whether a table is accepted, or which of 3 to 7 refuses it.
+pub fn check_table(entries: &[u32], pool: &[u32]) -> TableCheck
+    ensures { λ r. ⌜ checkTold r ≡ tableAnswer (now (entries .entry)) (now (pool .entry)) ⌝ }
+{
+    let form = table::check_form(entries, pool);
+    match form {
+        TableCheck::Accepted => check_levels(entries, pool),
+        TableCheck::Refused(r) => TableCheck::Refused(r),
+    }
+}
+
+// The octets of a code point's expansion, and the lookups for it.
+pub fn size_expansion(c: CodePoint, entries: &[u32], pool: &[u32]) -> Unfolded
+    requires { ⌜ tableRefusal (now entries) (now pool) ≡ none ⌝ }
+    ensures { λ r. ⌜ ExpansionCounted (mappingOf (now (entries .entry)) (now (pool .entry))) (c .0) r ⌝ }
+{
+    let Place::At(i) = table::find_entry(entries, c) else {
+        // A code point without an entry maps to itself: the two asks are known without a second search.
+        return Unfolded {
+            octets: utf8::octet_count(c),
+            asks: 2,
+        };
+    };
+    let title = CodePoint(entries[i * 4 + 1]);
+    let unfolded = size_unfolded(terms::LEVELS_MOST, title, entries, pool);
+    Unfolded {
+        octets: unfolded.octets,
+        asks: unfolded.asks + 1,
+    }
+}
+
+// Writes a code point's expansion at the start of a slice that has room for it.
+pub fn write_expansion(c: CodePoint, entries: &[u32], pool: &[u32], out: &mut [u8]) -> Unfolded
+    requires { ⌜ tableRefusal (now entries) (now pool) ≡ none ⌝ }
+    requires { ⌜ scalar (c .0) ≡ true ⌝ }
+    requires { ⌜ length (expanded (mappingOf (now entries) (now pool)) (c .0)) ≤ length (now out) ⌝ }
+    ensures { λ r. ⌜ ExpansionFilled (mappingOf (now (entries .entry)) (now (pool .entry))) (c .0) (now (out .entry)) r (now (out .exit)) ⌝ }
+{
+    let Place::At(i) = table::find_entry(entries, c) else {
+        let octets = utf8::write_character(c, out);
+        return Unfolded { octets, asks: 2 };
+    };
+    let title = CodePoint(entries[i * 4 + 1]);
+    let unfolded = write_unfolded(terms::LEVELS_MOST, title, entries, pool, out);
+    Unfolded {
+        octets: unfolded.octets,
+        asks: unfolded.asks + 1,
+    }
+}
+
+// Whether 7 refuses a table of the form.
+fn check_levels(entries: &[u32], pool: &[u32]) -> TableCheck
+    requires { ⌜ formRefusal (now entries) (now pool) ≡ none ⌝ }
+    ensures { λ r. ⌜ checkTold r ≡ answer (refusedAt 7 (lowest (faultyLevel (now (entries .entry)) (now (pool .entry))) (entryCount (now (entries .entry))))) [] ⌝ }
+{
+    let mut i = 0;
+    while i < entries.len() / 4 {
+        let measurement = measure(
+            terms::LEVELS_MOST,
+            CodePoint(entries[i * 4]),
+            terms::FULL_MOST,
+            entries,
+            pool,
+        );
+        if let Measurement::TooMuch = measurement {
+            return table::refused_at(terms::REFUSED_LEVEL, i);
+        }
+        i += 1;
+    }
+    TableCheck::Accepted
+}
+
+// How many code points a code point unfolds into, if within the levels left and into at most `room`.
+fn measure(
+    levels_left: usize,
+    c: CodePoint,
+    room: usize,
+    entries: &[u32],
+    pool: &[u32],
+) -> Measurement
+    requires { ⌜ formRefusal (now entries) (now pool) ≡ none ⌝ }
+    ensures { λ r. ⌜ measurementTold r ≡ measured (mappingOf (now (entries .entry)) (now (pool .entry))) «levels_left» room (c .0) ⌝ }
+{
+    let parts = table::parts_of(entries, pool, c);
+    if parts.len() == 0 {
+        if room == 0 {
+            return Measurement::TooMuch;
+        }
+        return Measurement::Fits(1);
+    }
+    if levels_left == 0 {
+        return Measurement::TooMuch;
+    }
+    let mut total = 0;
+    let mut i = 0;
+    while i < parts.len() {
+        let part = measure(
+            levels_left - 1,
+            CodePoint(parts[i]),
+            room - total,
+            entries,
+            pool,
+        );
+        match part {
+            Measurement::Fits(n) => {
+                total += n;
+            }
+            Measurement::TooMuch => {
+                return Measurement::TooMuch;
+            }
+        }
+        i += 1;
+    }
+    Measurement::Fits(total)
+}
+
+// The octets of a code point's full decomposition, and the asks of its unfolding.
+fn size_unfolded(levels_left: usize, c: CodePoint, entries: &[u32], pool: &[u32]) -> Unfolded
+    requires { ⌜ formRefusal (now entries) (now pool) ≡ none ⌝ }
+    requires { ⌜ Bounded (mappingOf (now entries) (now pool)) «levels_left» (c .0) ⌝ }
+    ensures { λ r. ⌜ FullCounted (mappingOf (now (entries .entry)) (now (pool .entry))) «levels_left» (c .0) r ⌝ }
+{
+    let parts = table::parts_of(entries, pool, c);
+    if parts.len() == 0 {
+        return Unfolded {
+            octets: utf8::octet_count(c),
+            asks: 1,
+        };
+    }
+    let mut octets = 0;
+    let mut asks: u64 = 1;
+    let mut i = 0;
+    while i < parts.len() {
+        let part = size_unfolded(levels_left - 1, CodePoint(parts[i]), entries, pool);
+        octets += part.octets;
+        asks += part.asks;
+        i += 1;
+    }
+    Unfolded { octets, asks }
+}
+
+// Writes a code point's full decomposition at the start of a slice that has room for it.
+fn write_unfolded(
+    levels_left: usize,
+    c: CodePoint,
+    entries: &[u32],
+    pool: &[u32],
+    out: &mut [u8],
+) -> Unfolded
+    requires { ⌜ formRefusal (now entries) (now pool) ≡ none ⌝ }
+    requires { ⌜ scalar (c .0) ≡ true ⌝ }
+    requires { ⌜ Bounded (mappingOf (now entries) (now pool)) «levels_left» (c .0) ⌝ }
+    requires { ⌜ length (encodes (full (mappingOf (now entries) (now pool)) «levels_left» (c .0))) ≤ length (now out) ⌝ }
+    ensures { λ r. ⌜ FullFilled (mappingOf (now (entries .entry)) (now (pool .entry))) «levels_left» (c .0) (now (out .entry)) r (now (out .exit)) ⌝ }
+{
+    let parts = table::parts_of(entries, pool, c);
+    if parts.len() == 0 {
+        let octets = utf8::write_character(c, out);
+        return Unfolded { octets, asks: 1 };
+    }
+    let mut at = 0;
+    let mut asks: u64 = 1;
+    let mut i = 0;
+    while i < parts.len() {
+        let part = write_unfolded(
+            levels_left - 1,
+            CodePoint(parts[i]),
+            entries,
+            pool,
+            &mut out[at..],
+        );
+        at += part.octets;
+        asks += part.asks;
+        i += 1;
+    }
+    Unfolded { octets: at, asks }
+}
