@@ -1,0 +1,4 @@
+pub mod Promises
+pub mod Matches
+pub mod Occurrence
+pub mod Rows

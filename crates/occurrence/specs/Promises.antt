@@ -1,0 +1,11 @@
+-- The answer of `find` in the paper's numbers.
+-- Assumes nothing.
+use Prim.Native.Nat.{ℕ}
+use mathlib.Core.Option.{Option, none, some}
+use Rattle.occurrence.specs.declared.Occurrence.{Occurrence}
+use Rattle.occurrence.specs.declared.Occurrence.the-variants.{At, Nowhere}
+
+-- the place that was found, if there is one
+abbrev pub occurrenceTold : Occurrence → Option ℕ
+occurrenceTold (At p) = some (p .0)
+occurrenceTold Nowhere = none
