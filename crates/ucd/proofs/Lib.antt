@@ -1,0 +1,10 @@
+pub mod Answers
+pub mod Walks
+pub mod Cutting
+pub mod Digits
+pub mod Listing
+pub mod Faults
+pub mod Judging
+pub mod Copies
+pub mod Adding
+pub mod Cases
