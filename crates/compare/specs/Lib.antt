@@ -1,0 +1,3 @@
+pub mod KeyOrder
+pub mod Compare
+pub mod Promises
