@@ -1,0 +1,28 @@
+-- Each starred example of document 01 holds of the definitions: one claim over the whole table, by one test that the checker
+-- computes.
+-- Assumes nothing.
+use mathlib.Core.Path.{_≡_, refl}
+use mathlib.Core.Bool.{Bool, true}
+use lib.Dec.{isEq}
+use Rattle.terms.specs.Lists.{all, lowest, each, total, begins}
+use Rattle.utf8.specs.Utf8.{encode, two, three, four, decode, charactersAfter, characters}
+use Rattle.table.specs.Table.{countsBelow, notAbove, formRefusal, entryOf}
+use Rattle.decompose.specs.Levels.{within, full, asks}
+use Rattle.decompose.specs.Steps.{stepsKey, stepsLookups}
+use Rattle.decompose.specs.TableCheck.{tableRefusal}
+use Rattle.prepare.specs.Keys.{prepared}
+use Rattle.prepare.specs.Calls.{callRefusal}
+use Rattle.compare.specs.KeyOrder.{orderOf}
+use Rattle.occurrence.specs.Occurrence.{occurrence}
+use Rattle.search.specs.Covering.{holder, covering}
+use Rattle.search.specs.Substring.{substringValues}
+use Rattle.starred.specs.Examples.{Example, starred}
+
+-- what is asked is what the paper says
+abbrev pub holds : Example → Bool
+holds e = isEq (orderOf (e .asked) (e .said))
+
+-- the claim
+pub starred-hold : all holds starred ≡ true
+unfolding lowest each total begins encode two three four decode charactersAfter characters countsBelow notAbove formRefusal entryOf within full asks stepsKey stepsLookups tableRefusal prepared callRefusal orderOf occurrence holder covering substringValues starred
+starred-hold = refl
