@@ -1,2 +1,7 @@
 pub mod Answers
+pub mod Collations
+pub mod Joining
+pub mod Ready
+pub mod Shown
+pub mod Walks
 pub mod Validity

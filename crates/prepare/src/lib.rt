@@ -1,7 +1,24 @@
 // Keys of the three collations (document 01, "The collations", "Preparation").
 //
-// The definitions stand in specs/.
+// `prepare`, `prepare_two` and `shown_key` take any arguments at all. The functions below them work on an accepted table, texts
+// within the limit and enough room, and say so.
+pub mod checks;
+pub mod keys;
+
+use checks::check_call;
+use checks::check_room;
+use checks::check_texts;
+use keys::size_key;
+use keys::write_key;
 use terms::Refusal;
+ghost use mathlib.Core.Path.{_≡_};
+ghost use mathlib.Core.Option.{none};
+ghost use Prim.Native.Nat.{_≤_};
+ghost use lib.ListN.{length};
+ghost use Rattle.terms.specs.Refusals.{textMost};
+ghost use Rattle.table.specs.Table.{mappingOf};
+ghost use Rattle.prepare.specs.Calls.{tableUnder, shownAt, shownKey};
+ghost use Rattle.prepare.specs.Promises.{Prepares, PreparesReady, PreparesTwo, PreparesTwoReady};
 
 // Where a key stands: it is the text itself, or stands at the start of the key buffer.
 pub enum KeyPlace {
@@ -36,4 +53,177 @@ pub enum PreparedPair {
 pub enum Readiness {
     Ready,
     Refused(Refusal),
+}
+
+// Prepares a text under a collation: its key is left at the start of the key buffer, if it belongs there.
+pub fn prepare(
+    collation: u32,
+    text: &[u8],
+    entries: &[u32],
+    pool: &[u32],
+    key: &mut [u8],
+) -> Preparation
+    ensures { λ r. ⌜ Prepares collation (now (text .entry)) (now (entries .entry)) (now (pool .entry)) (now (key .entry)) r (now (key .exit)) ⌝ }
+{
+    let table = check_call(collation, text.len(), 0, entries, pool);
+    match table {
+        Readiness::Ready => prepare_ready(collation, text, entries, pool, key),
+        Readiness::Refused(r) => Preparation::Refused(r),
+    }
+}
+
+// As `prepare`, over a table that is accepted already.
+pub fn prepare_accepted(
+    collation: u32,
+    text: &[u8],
+    entries: &[u32],
+    pool: &[u32],
+    key: &mut [u8],
+) -> Preparation
+    requires { ⌜ tableUnder collation (now entries) (now pool) ≡ none ⌝ }
+    ensures { λ r. ⌜ Prepares collation (now (text .entry)) (now (entries .entry)) (now (pool .entry)) (now (key .entry)) r (now (key .exit)) ⌝ }
+{
+    let texts = check_texts(collation, text.len(), 0);
+    match texts {
+        Readiness::Ready => prepare_ready(collation, text, entries, pool, key),
+        Readiness::Refused(r) => Preparation::Refused(r),
+    }
+}
+
+// Prepares two texts for a comparison, each in its own key buffer. Nothing is written unless both keys have room.
+pub fn prepare_two(
+    collation: u32,
+    first: &[u8],
+    second: &[u8],
+    entries: &[u32],
+    pool: &[u32],
+    first_key: &mut [u8],
+    second_key: &mut [u8],
+) -> PreparedPair
+    ensures { λ r. ⌜ PreparesTwo collation (now (first .entry)) (now (second .entry)) (now (entries .entry)) (now (pool .entry)) (now («first_key» .entry)) (now («second_key» .entry)) r (now («first_key» .exit)) (now («second_key» .exit)) ⌝ }
+{
+    let table = check_call(collation, first.len(), second.len(), entries, pool);
+    match table {
+        Readiness::Ready => prepare_two_ready(
+            collation,
+            first,
+            second,
+            entries,
+            pool,
+            first_key,
+            second_key,
+        ),
+        Readiness::Refused(r) => PreparedPair::Refused(r),
+    }
+}
+
+// As `prepare_two`, over a table that is accepted already.
+pub fn prepare_two_accepted(
+    collation: u32,
+    first: &[u8],
+    second: &[u8],
+    entries: &[u32],
+    pool: &[u32],
+    first_key: &mut [u8],
+    second_key: &mut [u8],
+) -> PreparedPair
+    requires { ⌜ tableUnder collation (now entries) (now pool) ≡ none ⌝ }
+    ensures { λ r. ⌜ PreparesTwo collation (now (first .entry)) (now (second .entry)) (now (entries .entry)) (now (pool .entry)) (now («first_key» .entry)) (now («second_key» .entry)) r (now («first_key» .exit)) (now («second_key» .exit)) ⌝ }
+{
+    let texts = check_texts(collation, first.len(), second.len());
+    match texts {
+        Readiness::Ready => prepare_two_ready(
+            collation,
+            first,
+            second,
+            entries,
+            pool,
+            first_key,
+            second_key,
+        ),
+        Readiness::Refused(r) => PreparedPair::Refused(r),
+    }
+}
+
+// The key of a text after it was prepared, as a part of the text or of the key buffer; empty on a refusal, and where the
+// preparation is not of these slices.
+pub fn shown_key<'a>(text: &'a [u8], key: &'a [u8], preparation: Preparation) -> &'a [u8]
+    ensures { λ r. ⌜ now r ≡ shownKey preparation (now (text .entry)) (now (key .entry)) ⌝ }
+{
+    match preparation {
+        Preparation::Prepared(summary) => shown_part(text, key, summary),
+        Preparation::Refused(_) => &text[..0],
+    }
+}
+
+// The key that a prepared text's summary shows.
+pub fn shown_part<'a>(text: &'a [u8], key: &'a [u8], summary: Summary) -> &'a [u8]
+    ensures { λ r. ⌜ now r ≡ shownAt (summary .place) (summary .«key_length») (now (text .entry)) (now (key .entry)) ⌝ }
+{
+    let n = summary.key_length;
+    let place = summary.place;
+    match place {
+        KeyPlace::Text => {
+            if n <= text.len() {
+                return &text[..n];
+            }
+        }
+        KeyPlace::Buffer => {
+            if n <= key.len() {
+                return &key[..n];
+            }
+        }
+    }
+    &text[..0]
+}
+
+// Prepares a text, of a call that passed 1 to 7.
+fn prepare_ready(
+    collation: u32,
+    text: &[u8],
+    entries: &[u32],
+    pool: &[u32],
+    key: &mut [u8],
+) -> Preparation
+    requires { ⌜ length (now text) ≤ textMost ⌝ }
+    requires { ⌜ tableUnder collation (now entries) (now pool) ≡ none ⌝ }
+    ensures { λ r. ⌜ PreparesReady collation (now (text .entry)) (mappingOf (now (entries .entry)) (now (pool .entry))) (now (key .entry)) r (now (key .exit)) ⌝ }
+{
+    let summary = size_key(collation, text, entries, pool);
+    let room = check_room(1, summary, key.len());
+    match room {
+        Readiness::Ready => {
+            write_key(collation, text, entries, pool, summary, key);
+            Preparation::Prepared(summary)
+        }
+        Readiness::Refused(r) => Preparation::Refused(r),
+    }
+}
+
+// Prepares two texts, of a call that passed 1 to 7: both keys are sized before the first octet is written.
+fn prepare_two_ready(
+    collation: u32,
+    first: &[u8],
+    second: &[u8],
+    entries: &[u32],
+    pool: &[u32],
+    first_key: &mut [u8],
+    second_key: &mut [u8],
+) -> PreparedPair
+    requires { ⌜ length (now first) ≤ textMost ⌝ }
+    requires { ⌜ length (now second) ≤ textMost ⌝ }
+    requires { ⌜ tableUnder collation (now entries) (now pool) ≡ none ⌝ }
+    ensures { λ r. ⌜ PreparesTwoReady collation (now (first .entry)) (now (second .entry)) (mappingOf (now (entries .entry)) (now (pool .entry))) (now («first_key» .entry)) (now («second_key» .entry)) r (now («first_key» .exit)) (now («second_key» .exit)) ⌝ }
+{
+    let one = size_key(collation, first, entries, pool);
+    let two = size_key(collation, second, entries, pool);
+    if let Readiness::Refused(r) = check_room(1, one, first_key.len()) {
+        return PreparedPair::Refused(r);
+    }
+    if let Readiness::Refused(r) = check_room(2, two, second_key.len()) {
+        return PreparedPair::Refused(r);
+    }
+    write_key(collation, first, entries, pool, one, first_key);
+    write_key(collation, second, entries, pool, two, second_key);
+    PreparedPair::Both(one, two)
 }

@@ -1,0 +1,214 @@
+-- `prepare::keys::write_unicode` meets its contract. The loop's invariant: the characters up to `at` were written into the first
+-- `end` octets of the buffer, and the key is these and the key of what follows (`Writing`). The measure is what is left of the text.
+-- Assumes nothing.
+use mathlib.Core.Path.{_≡_, sym, _∙_, ap}
+use mathlib.Core.List.{List, _++_}
+use mathlib.Core.Option.{none, some}
+use Prim.Native.Nat.{ℕ, _+_, _-_, _≤_}
+use native.Mathlib.Nat.{le-refl}
+use native.Mathlib.Omega.{arith}
+use borrow.Author.Needs.{needs}
+use lib.ListN.{length, take, drop}
+use Rattle.terms.proofs.Parts.{take-drop, put-back}
+use Rattle.table.specs.Mapping.{Mapping}
+use Rattle.table.specs.Table.{mappingOf}
+use Rattle.utf8.specs.Utf8.{Character, character, decode}
+use Rattle.utf8.specs.Promises.{readingTold}
+use Rattle.utf8.proofs.Decode.{decode-sound}
+use Rattle.prepare.proofs.Walks.{decode-drop-fits, Writing, writing-start, writing-more, writing-done, writing-stop, writing-length, writing-end, writing-room}
+use Rattle.prepare.proofs.keys.write_unicode.Statement.{statement}
+use Rattle.prepare.proofs.keys.write_unicode.Tie as tie
+
+abbrev Inv-loop : tie.InvT-loop
+Inv-loop text entries pool key₀ at₀ end₀ key at end = Writing (mappingOf entries pool) text key₀ at end key
+
+abbrev μ-loop : tie.MeasureT-loop
+μ-loop text entries pool key₀ at₀ end₀ key at end = length text - at
+
+-- at the loop's head: the function's entry, the mapping of the table, and the text
+abbrev start : tie.At-loop Inv-loop μ-loop → tie.Start Inv-loop μ-loop
+start l = l .before .before .before .before .before
+
+abbrev mapping : tie.At-loop Inv-loop μ-loop → Mapping
+mapping l = mappingOf (start l .args .entries .now) (start l .args .pool .now)
+
+abbrev text-of : tie.At-loop Inv-loop μ-loop → List ℕ
+text-of l = start l .args .text .now
+
+-- the buffer is as long as at the start, and the octets so far are within it
+same : (l : tie.At-loop Inv-loop μ-loop) → length (l .loop .key) ≡ length (start l .args .key .now)
+same l =
+    let s = start l in
+    writing-length (mapping l) (text-of l) (s .args .key .now) (l .loop .at) (l .loop .end) (l .loop .key) (l .loop .inv)
+    (s .pre .1 .0) (s .pre .1 .1)
+
+within : (l : tie.At-loop Inv-loop μ-loop) → l .loop .end ≤ length (l .loop .key)
+within l =
+    let s = start l in
+    writing-end (mapping l) (text-of l) (s .args .key .now) (l .loop .at) (l .loop .end) (l .loop .key) (l .loop .inv)
+    (s .pre .1 .0) (s .pre .1 .1)
+
+-- where a character was read: the loop's head, and the character
+abbrev head : tie.After-reading Inv-loop μ-loop → tie.At-loop Inv-loop μ-loop
+head c = c .before .before .before .before
+
+abbrev read : tie.After-reading Inv-loop μ-loop → Character
+read c = character (c .reading .given .0 .0 .0) (c .reading .given .0 .1 .0)
+
+decoded : (c : tie.After-reading Inv-loop μ-loop) → decode (drop (head c .loop .at) (text-of (head c))) ≡ some (read c)
+decoded c = sym (c .before .before .read-character .ensures) ∙ ap readingTold (c .reading .given .1)
+
+-- it takes an octet or more, and no more than are left
+fits : (c : tie.After-reading Inv-loop μ-loop)
+    → (1 ≤ read c .width) × (head c .loop .at + read c .width ≤ length (text-of (head c)))
+fits c =
+    let l = head c in
+    decode-drop-fits (text-of l) (l .loop .at) (read c) (l .loop .inv .passed) (decoded c)
+
+-- where it was written: one character more is written
+abbrev read-at : tie.After-write-expansion Inv-loop μ-loop → tie.After-reading Inv-loop μ-loop
+read-at c = c .before .before .before
+
+abbrev last : tie.After-write-expansion Inv-loop μ-loop → List ℕ
+last c = c .write-expansion .last .1 .1 .1 .0
+
+more : (c : tie.After-write-expansion Inv-loop μ-loop)
+    → let l = head (read-at c) in
+    Writing (mapping l) (text-of l) (start l .args .key .now)
+    (l .loop .at + read (read-at c) .width)
+    (l .loop .end + c .write-expansion .result .octets)
+    (take (l .loop .end) (l .loop .key) ++ last c)
+more c =
+    let r = read-at c in
+    let l = head r in
+    writing-more (mapping l) (text-of l) (start l .args .key .now) (l .loop .at) (l .loop .end) (l .loop .key) (l .loop .inv)
+    (read r) (c .write-expansion .result) (last c) (decoded r)
+    (rw (take-drop (l .loop .end) (l .loop .key)) at (c .write-expansion .ensures))
+
+-- still within the buffer
+ends : (c : tie.After-write-expansion Inv-loop μ-loop)
+    → let l = head (read-at c) in
+    l .loop .end + c .write-expansion .result .octets ≤ length (start l .args .key .now)
+ends c =
+    let l = head (read-at c) in
+    let s = start l in
+    let at = l .loop .at + read (read-at c) .width in
+    let end = l .loop .end + c .write-expansion .result .octets in
+    let key = take (l .loop .end) (l .loop .key) ++ last c in
+    omega (
+      arith,
+      writing-end (mapping l) (text-of l) (s .args .key .now) at end key (more c) (s .pre .1 .0) (s .pre .1 .1),
+      writing-length (mapping l) (text-of l) (s .args .key .now) at end key (more c) (s .pre .1 .0) (s .pre .1 .1),
+    )
+
+-- no character: never so
+never : (c : tie.After-enum-told Inv-loop μ-loop) → ⊥
+never c =
+    let called = c .before .before in
+    let l = called .before .before in
+    let e : decode (drop (l .loop .at) (text-of l)) ≡ none =
+    sym (called .read-character .ensures) ∙ ap readingTold (c .enum-told .given .1) in
+    writing-stop (mapping l) (text-of l) (start l .args .key .now) (l .loop .at) (l .loop .end) (l .loop .key) (l .loop .inv)
+    (called .before .loop-test .taken) e
+
+-- before the first character
+loop-holds : tie.Need-loop-holds Inv-loop μ-loop
+loop-holds c = writing-start _ _ _ (c .before .before .before .before .pre .1 .0)
+
+read-character-requires : tie.Need-read-character-requires Inv-loop μ-loop
+read-character-requires c κs = search needs
+
+enum-known-reading : tie.Need-enum-known-reading Inv-loop μ-loop
+enum-known-reading c = search needs
+
+-- the part that is lent
+sub-write-expansion : tie.Need-sub-write-expansion Inv-loop μ-loop
+sub-write-expansion c = within (head (c .before))
+
+part-write-expansion-start : tie.Need-part-write-expansion-start Inv-loop μ-loop
+part-write-expansion-start c = within (head (c .before))
+
+part-write-expansion-end : tie.Need-part-write-expansion-end Inv-loop μ-loop
+part-write-expansion-end c = le-refl (length (head (c .before) .loop .key))
+
+-- the table is accepted, a decoded character is scalar, and there is room in the part that is lent
+write-expansion-requires : tie.Need-write-expansion-requires Inv-loop μ-loop
+write-expansion-requires c κs =
+    let r = c .before .before in
+    let l = head r in
+    let s = start l in (
+      s .pre .0,
+      (
+        decode-sound (drop (l .loop .at) (text-of l)) (read r) (decoded r) .isScalar,
+        rw (take-drop (l .loop .end) (l .loop .key))
+            (writing-room (mapping l) (text-of l) (s .args .key .now) (l .loop .at) (l .loop .end) (l .loop .key) (l .loop .inv)
+            (s .pre .1 .0) (s .pre .1 .1) (read r) (decoded r)),
+      ),
+    )
+
+-- past the character
+add-at : tie.Need-add-at Inv-loop μ-loop
+add-at c =
+    let r = read-at (c .before .before) in
+    omega (arith, fits r, start (head r) .good .0)
+
+-- still within the buffer
+add-end : tie.Need-add-end Inv-loop μ-loop
+add-end c =
+    let w = c .before .before .before in
+    omega (arith, ends w, start (head (read-at w)) .good .1 .1 .1 .0)
+
+-- an octet or more fewer
+loop-less : tie.Need-loop-less Inv-loop μ-loop
+loop-less c = omega (arith, fits (read-at (c .before .before .before)))
+
+-- one character more
+loop-again : tie.Need-loop-again Inv-loop μ-loop
+loop-again c =
+    let w = c .before .before .before in
+    let l = head (read-at w) in
+    rw (put-back (l .loop .end) (l .loop .key) (last w)) (more w)
+
+enum-told : tie.Need-enum-told Inv-loop μ-loop
+enum-told c = search needs
+
+-- no character: never so
+same-length : tie.Need-same-length Inv-loop μ-loop
+same-length c = absurd (never c)
+
+returns : tie.Need-returns Inv-loop μ-loop
+returns c = absurd (never c)
+
+-- the end of the text
+same-length-2 : tie.Need-same-length-2 Inv-loop μ-loop
+same-length-2 c = same (c .before)
+
+returns-2 : tie.Need-returns-2 Inv-loop μ-loop
+returns-2 c =
+    let l = c .before in
+    let s = start l in
+    writing-done (mapping l) (text-of l) (s .args .key .now) (l .loop .at) (l .loop .end) (l .loop .key) (l .loop .inv)
+    (s .pre .1 .0) (c .loop-test .left)
+
+pub write-unicode-spec : {M : Type 1} → statement M
+write-unicode-spec =
+    tie.close
+    (tie.spec
+    Inv-loop
+    μ-loop
+    loop-holds
+    read-character-requires
+    enum-known-reading
+    sub-write-expansion
+    part-write-expansion-start
+    part-write-expansion-end
+    write-expansion-requires
+    add-at
+    add-end
+    loop-less
+    loop-again
+    enum-told
+    same-length
+    returns
+    same-length-2
+    returns-2)

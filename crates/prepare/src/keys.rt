@@ -1,0 +1,156 @@
+// The size and the octets of a text's key, over a table that is accepted and with enough room.
+use super::KeyPlace;
+use super::Summary;
+use terms::TextPosition;
+use utf8::Reading;
+ghost use mathlib.Core.Path.{_≡_};
+ghost use mathlib.Core.Bool.{true};
+ghost use mathlib.Core.List.{map};
+ghost use mathlib.Core.Option.{none};
+ghost use Prim.Native.Nat.{_≤_};
+ghost use lib.ListN.{length};
+ghost use Rattle.terms.specs.Lists.{there, over};
+ghost use Rattle.terms.specs.Refusals.{textMost};
+ghost use Rattle.table.specs.Table.{mappingOf};
+ghost use Rattle.utf8.specs.Utf8.{characters};
+ghost use Rattle.decompose.specs.TableCheck.{tableRefusal};
+ghost use Rattle.prepare.specs.Keys.{upper, unicodePrepared, prepared, roomFor, keyed};
+ghost use Rattle.prepare.specs.Calls.{tableUnder, summaryTold, preparedValues};
+
+// What preparing a text comes to, with nothing written.
+pub fn size_key(collation: u32, text: &[u8], entries: &[u32], pool: &[u32]) -> Summary
+    requires { ⌜ length (now text) ≤ textMost ⌝ }
+    requires { ⌜ tableUnder collation (now entries) (now pool) ≡ none ⌝ }
+    ensures { λ r. ⌜ summaryTold r ≡ preparedValues (prepared collation (mappingOf (now (entries .entry)) (now (pool .entry))) (now (text .entry))) ⌝ }
+{
+    if collation == terms::UNICODE_CASEMAP {
+        return size_unicode(text, entries, pool);
+    }
+    if collation == terms::ASCII_CASEMAP {
+        return Summary {
+            valid: true,
+            lookups: 0,
+            key_length: text.len(),
+            place: KeyPlace::Buffer,
+        };
+    }
+    Summary {
+        valid: true,
+        lookups: 0,
+        key_length: text.len(),
+        place: KeyPlace::Text,
+    }
+}
+
+// Writes the key of a text that was sized, if it belongs in the key buffer.
+pub fn write_key(
+    collation: u32,
+    text: &[u8],
+    entries: &[u32],
+    pool: &[u32],
+    summary: Summary,
+    key: &mut [u8],
+)
+    requires { ⌜ tableUnder collation (now entries) (now pool) ≡ none ⌝ }
+    requires { ⌜ summaryTold summary ≡ preparedValues (prepared collation (mappingOf (now entries) (now pool)) (now text)) ⌝ }
+    requires { ⌜ roomFor (prepared collation (mappingOf (now entries) (now pool)) (now text)) ≤ length (now key) ⌝ }
+    ensures { λ _. ⌜ now (key .exit) ≡ keyed (prepared collation (mappingOf (now (entries .entry)) (now (pool .entry))) (now (text .entry))) (now (key .entry)) ⌝ }
+{
+    let place = summary.place;
+    match place {
+        KeyPlace::Text => {}
+        KeyPlace::Buffer => {
+            if collation == terms::ASCII_CASEMAP {
+                write_ascii(text, key);
+            } else {
+                write_unicode(text, entries, pool, key);
+            }
+        }
+    }
+}
+
+// What preparing a text under collation 3 comes to.
+fn size_unicode(text: &[u8], entries: &[u32], pool: &[u32]) -> Summary
+    requires { ⌜ length (now text) ≤ textMost ⌝ }
+    requires { ⌜ tableRefusal (now entries) (now pool) ≡ none ⌝ }
+    ensures { λ r. ⌜ summaryTold r ≡ preparedValues (unicodePrepared (mappingOf (now (entries .entry)) (now (pool .entry))) (now (text .entry)) (characters (now (text .entry)))) ⌝ }
+{
+    let mut at = 0;
+    let mut octets = 0;
+    let mut lookups: u64 = 0;
+    while at < text.len() {
+        let reading = utf8::read_character(text, TextPosition(at));
+        match reading {
+            Reading::Character(c, width) => {
+                let sized = decompose::size_expansion(c, entries, pool);
+                at += width;
+                octets += sized.octets;
+                lookups += sized.asks;
+            }
+            Reading::Malformed => {
+                return Summary {
+                    valid: false,
+                    lookups: 0,
+                    key_length: text.len(),
+                    place: KeyPlace::Text,
+                };
+            }
+        }
+    }
+    Summary {
+        valid: true,
+        lookups,
+        key_length: octets,
+        place: KeyPlace::Buffer,
+    }
+}
+
+// Writes the key of a valid text under collation 3.
+fn write_unicode(text: &[u8], entries: &[u32], pool: &[u32], key: &mut [u8])
+    requires { ⌜ tableRefusal (now entries) (now pool) ≡ none ⌝ }
+    requires { ⌜ there (characters (now text)) ≡ true ⌝ }
+    requires { ⌜ roomFor (unicodePrepared (mappingOf (now entries) (now pool)) (now text) (characters (now text))) ≤ length (now key) ⌝ }
+    ensures { λ _. ⌜ now (key .exit) ≡ keyed (unicodePrepared (mappingOf (now (entries .entry)) (now (pool .entry))) (now (text .entry)) (characters (now (text .entry)))) (now (key .entry)) ⌝ }
+{
+    let mut at = 0;
+    let mut end = 0;
+    while at < text.len() {
+        let reading = utf8::read_character(text, TextPosition(at));
+        match reading {
+            Reading::Character(c, width) => {
+                let written = decompose::write_expansion(c, entries, pool, &mut key[end..]);
+                at += width;
+                end += written.octets;
+            }
+            // Never so: the text is valid.
+            Reading::Malformed => {
+                return;
+            }
+        }
+    }
+}
+
+// Writes the key of a text under collation 2.
+fn write_ascii(text: &[u8], key: &mut [u8])
+    requires { ⌜ length (now text) ≤ length (now key) ⌝ }
+    ensures { λ _. ⌜ now (key .exit) ≡ over (map upper (now (text .entry))) (now (key .entry)) ⌝ }
+{
+    let mut i = 0;
+    while i < text.len() {
+        key[i] = raised(text[i]);
+        i += 1;
+    }
+}
+
+// An octet a to z raised to A to Z.
+fn raised(octet: u8) -> u8
+    ensures { λ r. ⌜ r ≡ upper octet ⌝ }
+{
+    if octet < 0x61 {
+        return octet;
+    }
+    if octet <= 0x7A {
+        return octet - 0x20;
+    }
+    octet
+}
