@@ -8,3 +8,9 @@ pub mod Judging
 pub mod Copies
 pub mod Adding
 pub mod Cases
+pub mod Accepted
+pub mod Appending
+pub mod Grown
+pub mod BuiltForm
+pub mod Told
+pub mod BuiltMapping

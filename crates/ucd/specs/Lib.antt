@@ -1,3 +1,4 @@
 pub mod Fields
 pub mod Builder
 pub mod Promises
+pub mod Built
