@@ -4,8 +4,8 @@ use mathlib.Core.Path.{_≡_, refl}
 use Rattle.compare.specs.Compare.{equalityTold, orderTold}
 use Rattle.compare.specs.declared.Equality.{Equality}
 use Rattle.compare.specs.declared.Equality.the-variants.{Match, NoMatch, Refused}
-use Rattle.compare.specs.declared.Order.{Order}
-use Rattle.compare.specs.declared.Order.the-variants.{Less, Equal, Greater, Refused as Unordered}
+use Rattle.compare.specs.declared.Ordered.{Ordered}
+use Rattle.compare.specs.declared.Ordered.the-variants.{Less, Equal, Greater, Refused as Unordered}
 
 -- equality with the same numbers is the same answer
 pub equalityTold-inj : (x y : Equality) → equalityTold x ≡ equalityTold y → x ≡ y
@@ -20,7 +20,7 @@ equalityTold-inj (Refused r) NoMatch e = cc
 equalityTold-inj (Refused r) (Refused s) e = cc
 
 -- order with the same numbers is the same answer
-pub orderTold-inj : (x y : Order) → orderTold x ≡ orderTold y → x ≡ y
+pub orderTold-inj : (x y : Ordered) → orderTold x ≡ orderTold y → x ≡ y
 orderTold-inj Less Less e = refl
 orderTold-inj Less Equal e = cc
 orderTold-inj Less Greater e = cc

@@ -1,3 +1,5 @@
 pub mod Answers
+pub mod Calls
 pub mod KeyOrder
+pub mod Preorder
 pub mod TextOrder

@@ -12,8 +12,8 @@ use Rattle.prepare.specs.Calls.{compareRefusal}
 use Rattle.compare.specs.KeyOrder.{orderOf}
 use Rattle.compare.specs.declared.Equality.{Equality}
 use Rattle.compare.specs.declared.Equality.the-variants.{Match, NoMatch, Refused}
-use Rattle.compare.specs.declared.Order.{Order}
-use Rattle.compare.specs.declared.Order.the-variants.{Less, Equal, Greater, Refused as Unordered}
+use Rattle.compare.specs.declared.Ordered.{Ordered}
+use Rattle.compare.specs.declared.Ordered.the-variants.{Less, Equal, Greater, Refused as Unordered}
 
 -- ---- the answers in the paper's numbers
 
@@ -24,7 +24,7 @@ equalityTold NoMatch = given (2 ∷ [])
 equalityTold (Refused r) = refused r
 
 -- order: 1 less, 2 equal, 3 greater
-abbrev pub orderTold : Order → Told
+abbrev pub orderTold : Ordered → Told
 orderTold Less = given (1 ∷ [])
 orderTold Equal = given (2 ∷ [])
 orderTold Greater = given (3 ∷ [])

@@ -7,11 +7,11 @@ use Rattle.prepare.specs.Calls.{firstLeaves, secondLeaves}
 use Rattle.compare.specs.Compare.{equalityTold, equalAnswer, orderTold, orderAnswer}
 use Rattle.compare.specs.declared.Equality.{Equality}
 use Rattle.compare.specs.declared.Equality.the-variants.{Match, NoMatch, Refused}
-use Rattle.compare.specs.declared.Order.{Order}
-use Rattle.compare.specs.declared.Order.the-variants.{Less, Equal, Greater, Refused as Unordered}
+use Rattle.compare.specs.declared.Ordered.{Ordered}
+use Rattle.compare.specs.declared.Ordered.the-variants.{Less, Equal, Greater, Refused as Unordered}
 
 -- equality by an order: keys are equal where neither is less
-abbrev pub equalityBy : Order → Equality
+abbrev pub equalityBy : Ordered → Equality
 equalityBy Less = NoMatch
 equalityBy Equal = Match
 equalityBy Greater = NoMatch
@@ -24,7 +24,7 @@ pub record Equals (k : ℕ) (s t es pool sBuffer tBuffer : List ℕ) (r : Equali
   pub secondLeft : tAfter ≡ secondLeaves k s t es pool sBuffer tBuffer
 
 -- two texts were ordered: the answer, and both key buffers
-pub record Orders (k : ℕ) (s t es pool sBuffer tBuffer : List ℕ) (r : Order) (sAfter tAfter : List ℕ) : Type 0 where
+pub record Orders (k : ℕ) (s t es pool sBuffer tBuffer : List ℕ) (r : Ordered) (sAfter tAfter : List ℕ) : Type 0 where
   pub answered : orderTold r ≡ orderAnswer k s t es pool sBuffer tBuffer
   pub firstLeft : sAfter ≡ firstLeaves k s t es pool sBuffer tBuffer
   pub secondLeft : tAfter ≡ secondLeaves k s t es pool sBuffer tBuffer

@@ -1,7 +1,17 @@
 // Equality and order of two texts under a collation (document 01, "The collations").
 //
-// The definitions stand in specs/.
+// `equal` and `order` take any arguments at all; the `_accepted` ones ask for a table that is accepted already.
+use prepare::PreparedPair;
+use prepare::Summary;
 use terms::Refusal;
+ghost use mathlib.Core.Path.{_≡_};
+ghost use mathlib.Core.List.{[], _∷_};
+ghost use mathlib.Core.Option.{none};
+ghost use Rattle.terms.specs.Refusals.{given};
+ghost use Rattle.prepare.specs.Calls.{tableUnder, shownAt};
+ghost use Rattle.compare.specs.KeyOrder.{orderOf};
+ghost use Rattle.compare.specs.Compare.{orderTold, orderNumber};
+ghost use Rattle.compare.specs.Promises.{equalityBy, Equals, Orders};
 
 // Whether two texts are equal under a collation.
 pub enum Equality {
@@ -11,9 +21,166 @@ pub enum Equality {
 }
 
 // How two texts are ordered under a collation. A refused order is no order.
-pub enum Order {
+pub enum Ordered {
     Less,
     Equal,
     Greater,
     Refused(Refusal),
+}
+
+// Whether two texts are equal under a collation. Both keys are left as by `prepare`, each in its own buffer.
+pub fn equal(
+    collation: u32,
+    first: &[u8],
+    second: &[u8],
+    entries: &[u32],
+    pool: &[u32],
+    first_key: &mut [u8],
+    second_key: &mut [u8],
+) -> Equality
+    ensures { λ r. ⌜ Equals collation (now (first .entry)) (now (second .entry)) (now (entries .entry)) (now (pool .entry)) (now («first_key» .entry)) (now («second_key» .entry)) r (now («first_key» .exit)) (now («second_key» .exit)) ⌝ }
+{
+    let ordered = order(
+        collation,
+        first,
+        second,
+        entries,
+        pool,
+        first_key,
+        second_key,
+    );
+    equality_of(ordered)
+}
+
+// As `equal`, over a table that is accepted already.
+pub fn equal_accepted(
+    collation: u32,
+    first: &[u8],
+    second: &[u8],
+    entries: &[u32],
+    pool: &[u32],
+    first_key: &mut [u8],
+    second_key: &mut [u8],
+) -> Equality
+    requires { ⌜ tableUnder collation (now entries) (now pool) ≡ none ⌝ }
+    ensures { λ r. ⌜ Equals collation (now (first .entry)) (now (second .entry)) (now (entries .entry)) (now (pool .entry)) (now («first_key» .entry)) (now («second_key» .entry)) r (now («first_key» .exit)) (now («second_key» .exit)) ⌝ }
+{
+    let ordered = order_accepted(
+        collation,
+        first,
+        second,
+        entries,
+        pool,
+        first_key,
+        second_key,
+    );
+    equality_of(ordered)
+}
+
+// How two texts are ordered under a collation. Both keys are left as by `prepare`, each in its own buffer.
+pub fn order(
+    collation: u32,
+    first: &[u8],
+    second: &[u8],
+    entries: &[u32],
+    pool: &[u32],
+    first_key: &mut [u8],
+    second_key: &mut [u8],
+) -> Ordered
+    ensures { λ r. ⌜ Orders collation (now (first .entry)) (now (second .entry)) (now (entries .entry)) (now (pool .entry)) (now («first_key» .entry)) (now («second_key» .entry)) r (now («first_key» .exit)) (now («second_key» .exit)) ⌝ }
+{
+    let pair = prepare::prepare_two(
+        collation,
+        first,
+        second,
+        entries,
+        pool,
+        first_key,
+        second_key,
+    );
+    match pair {
+        PreparedPair::Both(one, two) => order_shown(first, first_key, one, second, second_key, two),
+        PreparedPair::Refused(r) => Ordered::Refused(r),
+    }
+}
+
+// As `order`, over a table that is accepted already.
+pub fn order_accepted(
+    collation: u32,
+    first: &[u8],
+    second: &[u8],
+    entries: &[u32],
+    pool: &[u32],
+    first_key: &mut [u8],
+    second_key: &mut [u8],
+) -> Ordered
+    requires { ⌜ tableUnder collation (now entries) (now pool) ≡ none ⌝ }
+    ensures { λ r. ⌜ Orders collation (now (first .entry)) (now (second .entry)) (now (entries .entry)) (now (pool .entry)) (now («first_key» .entry)) (now («second_key» .entry)) r (now («first_key» .exit)) (now («second_key» .exit)) ⌝ }
+{
+    let pair = prepare::prepare_two_accepted(
+        collation,
+        first,
+        second,
+        entries,
+        pool,
+        first_key,
+        second_key,
+    );
+    match pair {
+        PreparedPair::Both(one, two) => order_shown(first, first_key, one, second, second_key, two),
+        PreparedPair::Refused(r) => Ordered::Refused(r),
+    }
+}
+
+// Equality by an order: keys are equal where neither is less.
+fn equality_of(ordered: Ordered) -> Equality
+    ensures { λ r. ⌜ r ≡ equalityBy ordered ⌝ }
+{
+    match ordered {
+        Ordered::Less => Equality::NoMatch,
+        Ordered::Equal => Equality::Match,
+        Ordered::Greater => Equality::NoMatch,
+        Ordered::Refused(r) => Equality::Refused(r),
+    }
+}
+
+// The order of the keys that two prepared texts show.
+fn order_shown<'a, 'b>(
+    first: &'a [u8],
+    first_key: &'a [u8],
+    one: Summary,
+    second: &'b [u8],
+    second_key: &'b [u8],
+    two: Summary,
+) -> Ordered
+    ensures { λ r. ⌜ orderTold r ≡ given (orderNumber (orderOf (shownAt (one .place) (one .«key_length») (now (first .entry)) (now («first_key» .entry))) (shownAt (two .place) (two .«key_length») (now (second .entry)) (now («second_key» .entry)))) ∷ []) ⌝ }
+{
+    let a = prepare::shown_part(first, first_key, one);
+    let b = prepare::shown_part(second, second_key, two);
+    order_octets(a, b)
+}
+
+// The order of two keys: octet by octet, unsigned; a proper prefix is less.
+pub fn order_octets(a: &[u8], b: &[u8]) -> Ordered
+    ensures { λ r. ⌜ orderTold r ≡ given (orderNumber (orderOf (now (a .entry)) (now (b .entry))) ∷ []) ⌝ }
+{
+    let mut i = 0;
+    while i < a.len() {
+        if b.len() <= i {
+            return Ordered::Greater;
+        }
+        let x = a[i];
+        let y = b[i];
+        if x < y {
+            return Ordered::Less;
+        }
+        if y < x {
+            return Ordered::Greater;
+        }
+        i += 1;
+    }
+    if i < b.len() {
+        return Ordered::Less;
+    }
+    Ordered::Equal
 }

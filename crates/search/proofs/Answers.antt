@@ -4,8 +4,8 @@ use mathlib.Core.Path.{_≡_, refl}
 use Rattle.terms.specs.declared.KeyPosition.{KeyPosition}
 use Rattle.terms.specs.declared.TextPosition.{TextPosition}
 use Rattle.search.specs.Substring.{substringTold}
-use Rattle.search.specs.declared.Substring.{Substring}
-use Rattle.search.specs.declared.Substring.the-variants.{Match, NoMatch, Refused}
+use Rattle.search.specs.declared.Sought.{Sought}
+use Rattle.search.specs.declared.Sought.the-variants.{Match, NoMatch, Refused}
 
 -- positions with the same number are the same
 pub key-position-inj : (a b : KeyPosition) → a .0 ≡ b .0 → a ≡ b
@@ -15,7 +15,7 @@ pub text-position-inj : (a b : TextPosition) → a .0 ≡ b .0 → a ≡ b
 text-position-inj a b e = λ i. record { 0 = e i }
 
 -- substring answers with the same numbers are the same answer
-pub substringTold-inj : (x y : Substring) → substringTold x ≡ substringTold y → x ≡ y
+pub substringTold-inj : (x y : Sought) → substringTold x ≡ substringTold y → x ≡ y
 substringTold-inj (Match a b c d) (Match p q r s) e =
     cc
     (key-position-inj a p (cc), key-position-inj b q (cc), text-position-inj c r (cc), text-position-inj d s (cc))

@@ -1,1 +1,5 @@
 pub mod Answers
+pub mod Holders
+pub mod Runs
+pub mod Seeking
+pub mod Cover

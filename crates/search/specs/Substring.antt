@@ -16,11 +16,11 @@ use Rattle.prepare.specs.Keys.{keyOf}
 use Rattle.prepare.specs.Calls.{compareRefusal}
 use Rattle.occurrence.specs.Occurrence.{occurrence}
 use Rattle.search.specs.Covering.{Span, span, covering}
-use Rattle.search.specs.declared.Substring.{Substring}
-use Rattle.search.specs.declared.Substring.the-variants.{Match, NoMatch, Refused}
+use Rattle.search.specs.declared.Sought.{Sought}
+use Rattle.search.specs.declared.Sought.the-variants.{Match, NoMatch, Refused}
 
 -- the answer in the paper's numbers: 1 match, 2 no-match; start and end in the key, start and end in the text
-abbrev pub substringTold : Substring → Told
+abbrev pub substringTold : Sought → Told
 substringTold (Match ks ke ts te) = given (1 ∷ ks .0 ∷ ke .0 ∷ ts .0 ∷ te .0 ∷ [])
 substringTold NoMatch = given (2 ∷ 0 ∷ 0 ∷ 0 ∷ 0 ∷ [])
 substringTold (Refused r) = refused r

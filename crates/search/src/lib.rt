@@ -1,12 +1,28 @@
 // Substring search under a collation (document 01, "The substring answer").
 //
-// The definitions stand in specs/.
+// `substring` takes any arguments at all; `substring_accepted` asks for a table that is accepted already.
+mod covering;
+
+use covering::cover;
+use occurrence::Occurrence;
+use prepare::PreparedPair;
+use prepare::Summary;
 use terms::KeyPosition;
 use terms::Refusal;
 use terms::TextPosition;
+ghost use mathlib.Core.Path.{_≡_};
+ghost use mathlib.Core.Option.{none};
+ghost use lib.ListN.{length};
+ghost use Rattle.terms.specs.Refusals.{given};
+ghost use Rattle.table.specs.Table.{mappingOf};
+ghost use Rattle.prepare.specs.Calls.{tableUnder};
+ghost use Rattle.occurrence.specs.Occurrence.{occurrence};
+ghost use Rattle.search.specs.Covering.{span};
+ghost use Rattle.search.specs.Substring.{substringTold, textRun, hitValues, foundValues, substringValues};
+ghost use Rattle.search.specs.Promises.{Seeks, Shows, Readied, Hits};
 
 // Where the first text's key occurs in the second's, and the run of whole characters of the second text that covers it.
-pub enum Substring {
+pub enum Sought {
     Match {
         key_start: KeyPosition,
         key_end: KeyPosition,
@@ -15,4 +31,180 @@ pub enum Substring {
     },
     NoMatch,
     Refused(Refusal),
+}
+
+// Seeks the first text in the second under a collation. Both keys are left as by `prepare`, each in its own buffer.
+pub fn substring(
+    collation: u32,
+    first: &[u8],
+    second: &[u8],
+    entries: &[u32],
+    pool: &[u32],
+    first_key: &mut [u8],
+    second_key: &mut [u8],
+) -> Sought
+    ensures { λ r. ⌜ Seeks collation (now (first .entry)) (now (second .entry)) (now (entries .entry)) (now (pool .entry)) (now («first_key» .entry)) (now («second_key» .entry)) r (now («first_key» .exit)) (now («second_key» .exit)) ⌝ }
+{
+    let pair = prepare::prepare_two(
+        collation,
+        first,
+        second,
+        entries,
+        pool,
+        first_key,
+        second_key,
+    );
+    match pair {
+        PreparedPair::Both(one, two) => {
+            seek_shown(
+                collation,
+                first,
+                first_key,
+                one,
+                second,
+                second_key,
+                two,
+                entries,
+                pool,
+            )
+        }
+        PreparedPair::Refused(r) => Sought::Refused(r),
+    }
+}
+
+// As `substring`, over a table that is accepted already.
+pub fn substring_accepted(
+    collation: u32,
+    first: &[u8],
+    second: &[u8],
+    entries: &[u32],
+    pool: &[u32],
+    first_key: &mut [u8],
+    second_key: &mut [u8],
+) -> Sought
+    requires { ⌜ tableUnder collation (now entries) (now pool) ≡ none ⌝ }
+    ensures { λ r. ⌜ Seeks collation (now (first .entry)) (now (second .entry)) (now (entries .entry)) (now (pool .entry)) (now («first_key» .entry)) (now («second_key» .entry)) r (now («first_key» .exit)) (now («second_key» .exit)) ⌝ }
+{
+    let pair = prepare::prepare_two_accepted(
+        collation,
+        first,
+        second,
+        entries,
+        pool,
+        first_key,
+        second_key,
+    );
+    match pair {
+        PreparedPair::Both(one, two) => {
+            seek_shown(
+                collation,
+                first,
+                first_key,
+                one,
+                second,
+                second_key,
+                two,
+                entries,
+                pool,
+            )
+        }
+        PreparedPair::Refused(r) => Sought::Refused(r),
+    }
+}
+
+// The first text sought in the second, over the keys that the two prepared texts show.
+fn seek_shown<'a, 'b>(
+    collation: u32,
+    first: &'a [u8],
+    first_key: &'a [u8],
+    one: Summary,
+    second: &'b [u8],
+    second_key: &'b [u8],
+    two: Summary,
+    entries: &[u32],
+    pool: &[u32],
+) -> Sought
+    requires { ⌜ tableUnder collation (now entries) (now pool) ≡ none ⌝ }
+    requires { ⌜ Shows collation (mappingOf (now entries) (now pool)) (now first) (now «first_key») one (now second) (now «second_key») two ⌝ }
+    ensures { λ r. ⌜ substringTold r ≡ given (substringValues collation (mappingOf (now (entries .entry)) (now (pool .entry))) (now (first .entry)) (now (second .entry))) ⌝ }
+{
+    if first.len() == 0 {
+        return Sought::Match {
+            key_start: KeyPosition(0),
+            key_end: KeyPosition(0),
+            text_start: TextPosition(0),
+            text_end: TextPosition(0),
+        };
+    }
+    let needle = prepare::shown_part(first, first_key, one);
+    let hay = prepare::shown_part(second, second_key, two);
+    seek_key(collation, needle, hay, second, two.valid, entries, pool)
+}
+
+// A key that is not empty sought in the second text's key.
+fn seek_key(
+    collation: u32,
+    needle: &[u8],
+    hay: &[u8],
+    second: &[u8],
+    valid: bool,
+    entries: &[u32],
+    pool: &[u32],
+) -> Sought
+    requires { ⌜ tableUnder collation (now entries) (now pool) ≡ none ⌝ }
+    requires { ⌜ Readied collation (mappingOf (now entries) (now pool)) (now needle) (now hay) (now second) valid ⌝ }
+    ensures { λ r. ⌜ substringTold r ≡ given (foundValues collation (mappingOf (now (entries .entry)) (now (pool .entry))) (now (second .entry)) (length (now (needle .entry))) (occurrence (now (needle .entry)) (now (hay .entry)))) ⌝ }
+{
+    let found = occurrence::find(needle, hay);
+    match found {
+        Occurrence::At(start) => {
+            let s = start.0;
+            let e = s + needle.len();
+            hit(
+                collation,
+                second,
+                valid,
+                entries,
+                pool,
+                start,
+                KeyPosition(e),
+            )
+        }
+        Occurrence::Nowhere => Sought::NoMatch,
+    }
+}
+
+// A hit at a part of the second text's key, with the run of the text that covers it.
+fn hit(
+    collation: u32,
+    second: &[u8],
+    valid: bool,
+    entries: &[u32],
+    pool: &[u32],
+    start: KeyPosition,
+    end: KeyPosition,
+) -> Sought
+    requires { ⌜ tableUnder collation (now entries) (now pool) ≡ none ⌝ }
+    requires { ⌜ Hits collation (mappingOf (now entries) (now pool)) (now second) valid (start .0) (end .0) ⌝ }
+    ensures { λ r. ⌜ substringTold r ≡ given (hitValues (span (start .0) (end .0)) (textRun collation (mappingOf (now (entries .entry)) (now (pool .entry))) (now (second .entry)) (span (start .0) (end .0)))) ⌝ }
+{
+    if collation == terms::UNICODE_CASEMAP {
+        if valid {
+            let run = cover(second, entries, pool, start, end);
+            let text_start = run.start;
+            let text_end = run.end;
+            return Sought::Match {
+                key_start: start,
+                key_end: end,
+                text_start,
+                text_end,
+            };
+        }
+    }
+    Sought::Match {
+        key_start: start,
+        key_end: end,
+        text_start: TextPosition(start.0),
+        text_end: TextPosition(end.0),
+    }
 }

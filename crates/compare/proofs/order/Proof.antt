@@ -1,0 +1,73 @@
+-- `compare::order` meets its contract: `prepare_two` prepares both texts, and `order_shown` orders what they show.
+-- Assumes nothing.
+use borrow.Author.Needs.{needs}
+use Rattle.compare.proofs.Calls.{orders-shown, orders-refused}
+use Rattle.compare.proofs.order.Statement.{statement}
+use Rattle.compare.proofs.order.Tie as tie
+
+-- the call of `prepare_two`, seen from past it, and the function's entry from there
+abbrev called : tie.After-slice-known4 → tie.After-prepare-two
+called c = c .before .before .before .before
+
+abbrev start : tie.After-prepare-two → tie.Start
+start c = c .before .before .before .before .before .before .before .before .before
+
+prepare-two-requires : tie.Need-prepare-two-requires
+prepare-two-requires c κs = search needs
+
+enum-known-pair : tie.Need-enum-known-pair
+enum-known-pair c = search needs
+
+order-shown-requires : tie.Need-order-shown-requires
+order-shown-requires c κs = search needs
+
+enum-known-pair-2 : tie.Need-enum-known-pair-2
+enum-known-pair-2 c = search needs
+
+same-length : tie.Need-same-length
+same-length c = search needs
+
+same-length-2 : tie.Need-same-length-2
+same-length-2 c = search needs
+
+-- what they show is ordered
+returns : tie.Need-returns
+returns c =
+    let known = c .before .before .before .before in
+    let call = called (known .before .before) in
+    let args = start call .args in
+    orders-shown (args .collation) (args .first .now) (args .second .now) (args .entries .now) (args .pool .now)
+    (args .first-key .now) (args .second-key .now) _ _ (call .prepare-two .result) (call .prepare-two .ensures)
+    (known .pair .given .0 .0) (known .pair .given .0 .1 .0) (c .order-shown .result) (known .pair .given .1)
+    (c .order-shown .ensures)
+
+same-length-3 : tie.Need-same-length-3
+same-length-3 c = search needs
+
+same-length-4 : tie.Need-same-length-4
+same-length-4 c = search needs
+
+-- refused
+returns-2 : tie.Need-returns-2
+returns-2 c =
+    let known = c .before in
+    let call = called (known .before .before) in
+    let args = start call .args in
+    orders-refused (args .collation) (args .first .now) (args .second .now) (args .entries .now) (args .pool .now)
+    (args .first-key .now) (args .second-key .now) _ _ (call .prepare-two .result) (call .prepare-two .ensures) _
+    (known .pair2 .given .1)
+
+pub order-spec : {M : Type 1} → statement M
+order-spec =
+    tie.close
+    (tie.spec
+    prepare-two-requires
+    enum-known-pair
+    order-shown-requires
+    enum-known-pair-2
+    same-length
+    same-length-2
+    returns
+    same-length-3
+    same-length-4
+    returns-2)

@@ -1,0 +1,159 @@
+-- `search::covering::find_holder` meets its contract. The loop's invariant: octet k from the first place on is octet `left` from
+-- `at` on, where the text is valid and its key is longer (`Walking`). The measure is what is left of the text.
+-- Assumes nothing.
+use mathlib.Core.Path.{_≡_, sym, _∙_, ap}
+use mathlib.Core.List.{List}
+use mathlib.Core.Option.{none, some}
+use Prim.Native.Nat.{ℕ, _+_, _-_, _≤_}
+use native.Mathlib.Omega.{arith}
+use borrow.Author.Needs.{needs}
+use lib.ListN.{length, drop}
+use Rattle.table.specs.Mapping.{Mapping}
+use Rattle.utf8.specs.Utf8.{Character, character, decode}
+use Rattle.utf8.specs.Promises.{readingTold}
+use Rattle.prepare.proofs.Walks.{decode-drop-fits}
+use Rattle.table.specs.Table.{mappingOf}
+use Rattle.search.proofs.Holders.{Walking, walking-start, walking-more, walking-found, walking-stop, walking-done}
+use Rattle.search.proofs.covering.find_holder.Statement.{statement}
+use Rattle.search.proofs.covering.find_holder.Tie as tie
+
+abbrev Inv-loop : tie.InvT-loop
+Inv-loop text entries pool at₀ left₀ at left = Walking (mappingOf entries pool) text at₀ left₀ at left
+
+abbrev μ-loop : tie.MeasureT-loop
+μ-loop text entries pool at₀ left₀ at left = length text - at
+
+-- at the loop's head: the function's entry, the mapping of the table, and the text
+abbrev start : tie.At-loop Inv-loop μ-loop → tie.Start Inv-loop μ-loop
+start l = l .before .before .before .before
+
+abbrev mapping : tie.At-loop Inv-loop μ-loop → Mapping
+mapping l = mappingOf (start l .args .entries .now) (start l .args .pool .now)
+
+abbrev text-of : tie.At-loop Inv-loop μ-loop → List ℕ
+text-of l = start l .args .text .now
+
+abbrev from-of : tie.At-loop Inv-loop μ-loop → ℕ
+from-of l = start l .args .from .0
+
+abbrev octet-of : tie.At-loop Inv-loop μ-loop → ℕ
+octet-of l = start l .args .k .0
+
+-- where a character was read: the loop's head, and the character
+abbrev head : tie.After-reading Inv-loop μ-loop → tie.At-loop Inv-loop μ-loop
+head c = c .before .before .before .before
+
+abbrev read : tie.After-reading Inv-loop μ-loop → Character
+read c = character (c .reading .given .0 .0 .0) (c .reading .given .0 .1 .0)
+
+decoded : (c : tie.After-reading Inv-loop μ-loop) → decode (drop (head c .loop .at) (text-of (head c))) ≡ some (read c)
+decoded c = sym (c .before .before .read-character .ensures) ∙ ap readingTold (c .reading .given .1)
+
+-- the character is within the text
+fits : (c : tie.After-reading Inv-loop μ-loop) → let l = head c in
+    (1 ≤ read c .width) × (l .loop .at + read c .width ≤ length (text-of l))
+fits c =
+    let l = head c in
+    decode-drop-fits (text-of l) (l .loop .at) (read c) (omega (arith, c .before .before .before .loop-test .taken)) (decoded c)
+
+-- before the first character
+loop-holds : tie.Need-loop-holds Inv-loop μ-loop
+loop-holds c = walking-start _ _ _ _ (c .before .before .before .pre .1)
+
+read-character-requires : tie.Need-read-character-requires Inv-loop μ-loop
+read-character-requires c κs = search needs
+
+enum-known-reading : tie.Need-enum-known-reading Inv-loop μ-loop
+enum-known-reading c = search needs
+
+-- the table is accepted
+size-expansion-requires : tie.Need-size-expansion-requires Inv-loop μ-loop
+size-expansion-requires c κs = start (head (c .before)) .pre .0
+
+add-holder-at : tie.Need-add-holder-at Inv-loop μ-loop
+add-holder-at c =
+    let r = c .before .before .before in
+    omega (arith, fits r, start (head r) .good .0 .0)
+
+holder-at-requires : tie.Need-holder-at-requires Inv-loop μ-loop
+holder-at-requires c κs = search needs
+
+-- this character holds the octet
+returns : tie.Need-returns Inv-loop μ-loop
+returns c =
+    let sized = c .before .before in
+    let r = sized .before .before in
+    let l = head r in
+    rw (c .holder-at .ensures)
+    (walking-found (mapping l) (text-of l) (from-of l) (octet-of l) (l .loop .at) (l .loop .left) (l .loop .inv) (read r) (decoded r)
+    (omega (arith, c .before .if1 .taken, sized .size-expansion .ensures .octets)))
+
+add-at : tie.Need-add-at Inv-loop μ-loop
+add-at c =
+    let r = c .before .before .before in
+    omega (arith, fits r, start (head r) .good .0 .0)
+
+loop-less : tie.Need-loop-less Inv-loop μ-loop
+loop-less c =
+    let r = c .before .before .before in
+    omega (arith, fits r)
+
+-- a later character holds the octet
+loop-again : tie.Need-loop-again Inv-loop μ-loop
+loop-again c =
+    let sized = c .before in
+    let r = sized .before .before in
+    let l = head r in
+    walking-more (mapping l) (text-of l) (from-of l) (octet-of l) (l .loop .at) (l .loop .left) (l .loop .inv) (read r) (decoded r)
+    (sized .size-expansion .result .octets) (sized .size-expansion .ensures .octets) (c .if1 .left)
+
+enum-told : tie.Need-enum-told Inv-loop μ-loop
+enum-told c = search needs
+
+holder-at-requires-2 : tie.Need-holder-at-requires-2 Inv-loop μ-loop
+holder-at-requires-2 c κs = search needs
+
+-- no character: never so
+returns-2 : tie.Need-returns-2 Inv-loop μ-loop
+returns-2 c =
+    let told = c .before in
+    let called = told .before .before in
+    let l = called .before .before in
+    let e : decode (drop (l .loop .at) (text-of l)) ≡ none =
+    sym (called .read-character .ensures) ∙ ap readingTold (told .enum-told .given .1) in
+    absurd
+    (walking-stop (mapping l) (text-of l) (from-of l) (octet-of l) (l .loop .at) (l .loop .left) (l .loop .inv)
+    (called .before .loop-test .taken) e)
+
+holder-at-requires-3 : tie.Need-holder-at-requires-3 Inv-loop μ-loop
+holder-at-requires-3 c κs = search needs
+
+-- the end of the text: never so
+returns-3 : tie.Need-returns-3 Inv-loop μ-loop
+returns-3 c =
+    let l = c .before .before in
+    absurd
+    (walking-done (mapping l) (text-of l) (from-of l) (octet-of l) (l .loop .at) (l .loop .left) (l .loop .inv)
+    (c .before .loop-test .left))
+
+pub find-holder-spec : {M : Type 1} → statement M
+find-holder-spec =
+    tie.close
+    (tie.spec
+    Inv-loop
+    μ-loop
+    loop-holds
+    read-character-requires
+    enum-known-reading
+    size-expansion-requires
+    add-holder-at
+    holder-at-requires
+    returns
+    add-at
+    loop-less
+    loop-again
+    enum-told
+    holder-at-requires-2
+    returns-2
+    holder-at-requires-3
+    returns-3)

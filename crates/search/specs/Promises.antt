@@ -1,0 +1,90 @@
+-- What the contracts of the crate say with the definitions of the other files.
+-- Assumes nothing.
+use mathlib.Core.Path.{_≡_}
+use Prim.Native.Nat.{ℕ, _-_, _≤_, _<_}
+use mathlib.Core.Bool.{Bool, true, cond}
+use mathlib.Core.Option.{Option, none, some}
+use mathlib.Core.List.{List, [], _∷_}
+use lib.Dec.{ltb}
+use lib.ListN.{length, drop}
+use Rattle.terms.specs.Lists.{there}
+use Rattle.table.specs.Mapping.{Mapping}
+use Rattle.utf8.specs.Utf8.{Character, characters}
+use Rattle.decompose.specs.Steps.{expanded, stepsKey}
+use Rattle.prepare.specs.Keys.{prepared, keyOf}
+use Rattle.prepare.specs.Calls.{shownAt, firstLeaves, secondLeaves}
+use Rattle.prepare.specs.declared.Summary.{Summary}
+use Rattle.search.specs.Covering.{Span, span, holder}
+use Rattle.search.specs.Substring.{substringTold, substringAnswer}
+use Rattle.search.specs.declared.Sought.{Sought}
+use Rattle.search.specs.declared.covering.Run.{Run}
+use Rattle.search.specs.declared.covering.Holder.{Holder}
+
+-- a text was sought in another: the answer, and both key buffers
+pub record Seeks (k : ℕ) (s t es pool sBuffer tBuffer : List ℕ) (r : Sought) (sAfter tAfter : List ℕ) : Type 0 where
+  pub answered : substringTold r ≡ substringAnswer k s t es pool sBuffer tBuffer
+  pub firstLeft : sAfter ≡ firstLeaves k s t es pool sBuffer tBuffer
+  pub secondLeft : tAfter ≡ secondLeaves k s t es pool sBuffer tBuffer
+
+-- ---- the covering run
+
+-- the characters that are there, none where the text is not valid
+abbrev pub listed : Option (List Character) → List Character
+listed none = []
+listed (some chs) = chs
+
+-- the characters of a text from a place on
+abbrev pub charactersFrom : List ℕ → ℕ → List Character
+charactersFrom t from = listed (characters (drop from t))
+
+-- which octet of its character's expansion octet k of a key is
+unfoldable pub offsetOf : Mapping → ℕ → List Character → ℕ
+offsetOf m k [] = k
+offsetOf m k (ch ∷ chs) =
+    cond (ltb k (length (expanded m (ch .code))))
+    k
+    (offsetOf m (k - length (expanded m (ch .code))) chs)
+
+-- from a place on a text is valid, and its key there has more than k octets
+pub record Ahead (m : Mapping) (t : List ℕ) (from k : ℕ) : Type 0 where
+  pub valid : there (characters (drop from t)) ≡ true
+  pub below : k < length (stepsKey m (charactersFrom t from))
+
+-- a holder by its three numbers
+abbrev pub holding : ℕ → ℕ → ℕ → Holder
+holding s e o = record { start = record { 0 = s }; end = record { 0 = e }; offset = o }
+
+-- the character that holds octet k of the key, both counted from a place on, was found: its place, and which octet it is
+pub record Held (m : Mapping) (t : List ℕ) (from k : ℕ) (r : Holder) : Type 0 where
+  pub place : some (span (r .start .0) (r .end .0)) ≡ holder m from k (charactersFrom t from)
+  pub offset : r .offset ≡ offsetOf m k (charactersFrom t from)
+
+-- a text is valid, and its key has a part from s up to e that is not empty
+pub record Within (m : Mapping) (t : List ℕ) (s e : ℕ) : Type 0 where
+  pub valid : there (characters t) ≡ true
+  pub some : s < e
+  pub most : e ≤ length (stepsKey m (listed (characters t)))
+
+-- a run by its two ends
+abbrev pub runTold : Run → Span
+runTold r = span (r .start .0) (r .end .0)
+
+-- ---- seeking
+
+-- the key of a text has a part from s up to e that is not empty, and it is told whether the text is valid
+pub record Hits (k : ℕ) (m : Mapping) (t : List ℕ) (valid : Bool) (s e : ℕ) : Type 0 where
+  pub told : valid ≡ prepared k m t .valid
+  pub some : s < e
+  pub most : e ≤ length (keyOf k m t)
+
+-- a needle that is not empty, the key of a text, and whether the text is valid
+pub record Readied (k : ℕ) (m : Mapping) (needle hay t : List ℕ) (valid : Bool) : Type 0 where
+  pub some : 0 < length needle
+  pub key : hay ≡ keyOf k m t
+  pub told : valid ≡ prepared k m t .valid
+
+-- two texts that were prepared show their keys, and the second is valid where its summary says so
+pub record Shows (k : ℕ) (m : Mapping) (s sKey : List ℕ) (one : Summary) (t tKey : List ℕ) (two : Summary) : Type 0 where
+  pub first : shownAt (one .place) (one .«key_length») s sKey ≡ keyOf k m s
+  pub second : shownAt (two .place) (two .«key_length») t tKey ≡ keyOf k m t
+  pub told : two .valid ≡ prepared k m t .valid

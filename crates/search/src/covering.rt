@@ -1,0 +1,99 @@
+// The run of whole characters of a valid text that covers a part of its key: the text is walked once more, by the sizes of its
+// expansions, and nothing is written.
+use terms::KeyPosition;
+use terms::TextPosition;
+use utf8::Reading;
+ghost use mathlib.Core.Path.{_≡_};
+ghost use mathlib.Core.Option.{none};
+ghost use Rattle.table.specs.Table.{mappingOf};
+ghost use Rattle.utf8.specs.Utf8.{characters};
+ghost use Rattle.decompose.specs.TableCheck.{tableRefusal};
+ghost use Rattle.search.specs.Covering.{span};
+ghost use Rattle.search.specs.Substring.{runIn};
+ghost use Rattle.search.specs.Promises.{Within, Ahead, Held, holding, runTold};
+
+// A run of a text, from its start to its end.
+pub struct Run {
+    pub start: TextPosition,
+    pub end: TextPosition,
+}
+
+// The character whose expansion holds an octet of the key: its place in the text, and which octet of its expansion it is.
+pub struct Holder {
+    pub start: TextPosition,
+    pub end: TextPosition,
+    pub offset: usize,
+}
+
+// The run that covers the part of the key from start up to end.
+pub fn cover(
+    text: &[u8],
+    entries: &[u32],
+    pool: &[u32],
+    start: KeyPosition,
+    end: KeyPosition,
+) -> Run
+    requires { ⌜ tableRefusal (now entries) (now pool) ≡ none ⌝ }
+    requires { ⌜ Within (mappingOf (now entries) (now pool)) (now text) (start .0) (end .0) ⌝ }
+    ensures { λ r. ⌜ runTold r ≡ runIn (mappingOf (now (entries .entry)) (now (pool .entry))) (characters (now (text .entry))) (span (start .0) (end .0)) ⌝ }
+{
+    let s = start.0;
+    let e = end.0;
+    let first = find_holder(text, entries, pool, TextPosition(0), KeyPosition(s));
+    let from = first.start;
+    // The last octet is sought from the first one's character on, so that the text is walked once.
+    let k = first.offset + (e - 1 - s);
+    let last = find_holder(text, entries, pool, from, KeyPosition(k));
+    let to = last.end;
+    Run {
+        start: from,
+        end: to,
+    }
+}
+
+// The character whose expansion holds octet k of the key, both counted from a place of the text on.
+fn find_holder(
+    text: &[u8],
+    entries: &[u32],
+    pool: &[u32],
+    from: TextPosition,
+    k: KeyPosition,
+) -> Holder
+    requires { ⌜ tableRefusal (now entries) (now pool) ≡ none ⌝ }
+    requires { ⌜ Ahead (mappingOf (now entries) (now pool)) (now text) (from .0) (k .0) ⌝ }
+    ensures { λ r. ⌜ Held (mappingOf (now (entries .entry)) (now (pool .entry))) (now (text .entry)) (from .0) (k .0) r ⌝ }
+{
+    let mut at = from.0;
+    let mut left = k.0;
+    while at < text.len() {
+        let reading = utf8::read_character(text, TextPosition(at));
+        match reading {
+            Reading::Character(c, width) => {
+                let sized = decompose::size_expansion(c, entries, pool);
+                let octets = sized.octets;
+                if left < octets {
+                    return holder_at(at, at + width, left);
+                }
+                at += width;
+                left -= octets;
+            }
+            // Never so: the text is valid from there on.
+            Reading::Malformed => {
+                return holder_at(at, at, left);
+            }
+        }
+    }
+    // Never so: the key is longer than k.
+    holder_at(at, at, left)
+}
+
+// A holder by its three numbers.
+fn holder_at(start: usize, end: usize, offset: usize) -> Holder
+    ensures { λ r. ⌜ r ≡ holding start end offset ⌝ }
+{
+    Holder {
+        start: TextPosition(start),
+        end: TextPosition(end),
+        offset,
+    }
+}
