@@ -27,7 +27,7 @@ use Rattle.compare.specs.declared.Equality.the-variants.{Match, NoMatch,
 use Rattle.compare.specs.declared.Ordered.{Ordered}
 use Rattle.compare.specs.declared.Ordered.the-variants.{Less, Equal, Greater, Refused as Unordered}
 use Rattle.compare.proofs.Answers.{equalityTold-inj, orderTold-inj}
-use Rattle.compare.proofs.KeyOrder.{flip, order-trans, AtMost, at-most-trans, at-most-total}
+use Rattle.compare.proofs.KeyOrder.{flip, AtMost, at-most-trans, at-most-total}
 use Rattle.compare.proofs.TextOrder.{text-order-tie, text-order-same, text-order-flip, text-order-trans}
 
 -- ---- answers that are not refusals
