@@ -40,11 +40,12 @@ module _ (m : Mapping) (ch : Character) (chs : List Character) where
   unfolding holder
   holder-later at k h = rw (le-ltb k (size m ch) h)
 
-  -- and which octet of its character's it is
+  -- which octet of its character's it is: of the first
   pub offset-here : (k : ℕ) → k < size m ch → offsetOf m k (ch ∷ chs) ≡ k
   unfolding offsetOf
   offset-here k h = rw (lt-ltb k (size m ch) h)
 
+  -- or of a later one
   pub offset-later : (k : ℕ) → size m ch ≤ k → offsetOf m k (ch ∷ chs) ≡ offsetOf m (k - size m ch) chs
   unfolding offsetOf
   offset-later k h = rw (le-ltb k (size m ch) h)
