@@ -3,7 +3,7 @@
 -- proofs/Levels.antt ties `within` to `Level`, both ways.
 -- Assumes nothing.
 use mathlib.Core.Path.{_≡_}
-use Prim.Native.Nat.{ℕ, zero, suc, _+_, max}
+use Prim.Native.Nat.{ℕ, zero, suc, max}
 use mathlib.Core.Bool.{Bool, cond}
 use mathlib.Core.List.{List, [], _∷_}
 use Rattle.terms.specs.Lists.{all, empty, each, total}

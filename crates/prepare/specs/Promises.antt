@@ -12,7 +12,7 @@ use Rattle.table.specs.Mapping.{Mapping}
 use Rattle.table.specs.Table.{mappingOf}
 use Rattle.utf8.specs.Utf8.{Character, characters}
 use Rattle.prepare.specs.Keys.{prepared}
-use Rattle.prepare.specs.Calls.{lent, collationCheck, lengthCheck, tableUnder, roomChecks, bufferAfter, summaryTold, preparationTold, preparedValues, prepareAnswer, prepareLeaves, compareRefusal, firstLeaves, secondLeaves}
+use Rattle.prepare.specs.Calls.{lent, collationCheck, lengthCheck, roomChecks, bufferAfter, summaryTold, preparationTold, preparedValues, prepareAnswer, prepareLeaves, compareRefusal, firstLeaves, secondLeaves}
 use Rattle.prepare.specs.declared.KeyPlace.{KeyPlace}
 use Rattle.prepare.specs.declared.KeyPlace.the-variants.{Text, Buffer}
 use Rattle.prepare.specs.declared.Readiness.{Readiness}

@@ -2,7 +2,7 @@
 -- "from the start of the character whose expansion holds the first matched octet to the end of the one that holds the last"
 -- Assumes nothing.
 use Prim.Native.Nat.{ℕ, _+_, _-_, pred}
-use mathlib.Core.Bool.{Bool, cond}
+use mathlib.Core.Bool.{cond}
 use mathlib.Core.Option.{Option, none, some}
 use mathlib.Core.List.{List, [], _∷_}
 use lib.Dec.{ltb}

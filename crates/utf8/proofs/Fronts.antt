@@ -6,10 +6,8 @@ use mathlib.Core.Bool.{true, false, _&&_}
 use mathlib.Core.Option.{Option, none, some}
 use mathlib.Core.List.{List, [], _∷_}
 use Prim.Native.Nat.{ℕ, _+_, _-_, _*_, _≤_, _<_}
-use native.Mathlib.Numerals.{add-one}
 use native.Mathlib.Omega.{arith}
-use lib.ListN.{length, take, drop, getD, set, length-append, length-drop}
-use lib.Seq.{take-all, drop-cons}
+use lib.ListN.{length, drop, getD, set, length-append}
 use Rattle.terms.specs.Lists.{there, over}
 use Rattle.utf8.specs.Utf8.{Character, encode, trails, taken, two, three, four, decode, characters}
 use Rattle.utf8.proofs.Encode.{encode-width}

@@ -1,0 +1,130 @@
+-- `pairing::words::put_numbered` meets its contract: the word, the digits in the part after it, and the line end after both.
+-- Assumes nothing.
+use mathlib.Core.Path.{_≡_, _∙_}
+use Prim.Native.Nat.{ℕ, _+_, _-_, _≤_, _<_}
+use native.Mathlib.Omega.{arith}
+use mathlib.Core.List.{List, _++_}
+use lib.ListN.{length, take, drop, length-drop, length-set}
+use Rattle.terms.proofs.Parts.{take-drop, put-back}
+use Rattle.pairing.specs.Promises.{Puts}
+use Rattle.pairing.specs.Words.{decimal}
+use Rattle.pairing.proofs.Numbers.{length-decimal-64}
+use Rattle.pairing.proofs.Writing.{puts-length, puts-more, puts-append}
+use borrow.Author.Needs.{needs}
+use Rattle.pairing.proofs.words.put_numbered.Statement.{statement}
+use Rattle.pairing.proofs.words.put_numbered.Tie as tie
+use Rattle.pairing.proofs.words.put_numbered.Reads as reads
+use Rattle.pairing.proofs.words.put_numbered.Lts as lts
+use Rattle.pairing.proofs.words.put.Reads as put-reads
+use Rattle.pairing.proofs.words.put_decimal.Reads as put-decimal-reads
+
+-- where the word was put: the function's entry, that the slice kept its length, and that there is room for the digits and the line end
+abbrev entry : tie.After-put → tie.Start
+entry p = p .before .before .before .before
+
+room : (p : tie.After-put) → p .put .result + 21 ≤ length (p .put .last .1 .0)
+room p = omega (arith, p .put .ensures .count, p .put .kept .1 .0, entry p .pre)
+
+digits-few : (p : tie.After-put) → length (decimal (entry p .args .n)) ≤ 20
+digits-few p = length-decimal-64 (entry p .args .n) (omega (arith, entry p .fits .n))
+
+-- where the digits were put
+abbrev word-put : tie.After-put-decimal → tie.After-put
+word-put d = d .before .before .before .before
+
+abbrev at-end : tie.After-put-decimal → ℕ
+at-end d = word-put d .put .result + d .put-decimal .result
+
+abbrev joined : tie.After-put-decimal → List ℕ
+joined d = take (word-put d .put .result) (word-put d .put .last .1 .0) ++ d .put-decimal .last .1 .0
+
+whole : (d : tie.After-put-decimal)
+    → let p = word-put d in
+    let n = p .put .result in
+    let t = p .put .last .1 .0 in
+    take n t ++ (d .put-decimal .last .1 .0 ++ drop (length t - n) (drop n t)) ≡ joined d
+whole d = let p = word-put d in put-back (p .put .result) (p .put .last .1 .0) (d .put-decimal .last .1 .0)
+
+puts-joined : (d : tie.After-put-decimal)
+    → let s = entry (word-put d) in
+    Puts (s .args .word .now ++ decimal (s .args .n)) (s .args .out .now) (at-end d) (joined d)
+puts-joined d =
+    let p = word-put d in
+    let s = entry p in
+    puts-append (s .args .word .now) (s .args .out .now) (p .put .result) (p .put .last .1 .0) (p .put .ensures)
+    (decimal (s .args .n)) (d .put-decimal .result) (d .put-decimal .last .1 .0)
+    (rw (take-drop (p .put .result) (p .put .last .1 .0)) at (d .put-decimal .ensures))
+
+end-below : (d : tie.After-put-decimal) → at-end d < length (entry (word-put d) .args .out .now)
+end-below d =
+    let p = word-put d in
+    omega (arith, room p, digits-few p, d .put-decimal .ensures .count, p .put .kept .1 .0)
+
+length-joined : (d : tie.After-put-decimal) → length (joined d) ≡ length (entry (word-put d) .args .out .now)
+length-joined d =
+    let s = entry (word-put d) in
+    puts-length (s .args .word .now ++ decimal (s .args .n)) (s .args .out .now) (at-end d) (joined d) (puts-joined d)
+    (omega (arith, end-below d))
+
+-- src/words.rt:60:9
+put-requires : tie.Need-put-requires
+put-requires c κs = search needs
+
+-- src/words.rt:61:33
+sub-put-decimal : tie.Need-sub-put-decimal
+sub-put-decimal c = search needs
+
+-- src/words.rt:61:33
+part-put-decimal-start : tie.Need-part-put-decimal-start
+part-put-decimal-start c = search needs
+
+-- src/words.rt:61:33
+part-put-decimal-end : tie.Need-part-put-decimal-end
+part-put-decimal-end c = search needs
+
+-- src/words.rt:61:9
+put-decimal-requires : tie.Need-put-decimal-requires
+put-decimal-requires c κs =
+    let p = c .before .before .before in
+    rw (take-drop (p .put .result) (p .put .last .1 .0)) (omega (arith, room p, digits-few p, length-drop (p .put .result) (p .put .last .1 .0)))
+
+-- src/words.rt:62:15
+add-end : tie.Need-add-end
+add-end c = omega (arith, end-below (c .before .before), entry (word-put (c .before .before)) .good .1 .1 .0)
+
+-- src/words.rt:63:5
+slice-write-out : tie.Need-slice-write-out
+slice-write-out c =
+    let d = c .before .before in
+    rw (whole d) (omega (arith, length-joined d, end-below d))
+
+-- src/words.rt:64:5
+add-result : tie.Need-add-result
+add-result c = omega (arith, end-below (c .before .before), entry (word-put (c .before .before)) .good .1 .1 .0)
+
+-- src/words.rt:56:1
+same-length : tie.Need-same-length
+same-length c = let d = c .before .before in simp length-set (rw (whole d) (length-joined d))
+
+-- src/words.rt:56:1
+returns : tie.Need-returns
+returns c =
+    let d = c .before .before in
+    let s = entry (word-put d) in
+    rw (whole d)
+    (puts-more (s .args .word .now ++ decimal (s .args .n)) (s .args .out .now) (at-end d) (joined d) (puts-joined d) 10 (end-below d))
+
+pub put-numbered-spec : {M : Type 1} → statement M
+put-numbered-spec =
+    tie.close
+    (tie.spec
+    put-requires
+    sub-put-decimal
+    part-put-decimal-start
+    part-put-decimal-end
+    put-decimal-requires
+    add-end
+    slice-write-out
+    add-result
+    same-length
+    returns)

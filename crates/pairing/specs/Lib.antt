@@ -1,0 +1,3 @@
+pub mod Pairing
+pub mod Words
+pub mod Promises

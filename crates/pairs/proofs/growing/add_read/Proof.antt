@@ -1,0 +1,68 @@
+-- `pairs::growing::add_read` promises a state within the slices where the line is taken: the builder keeps it so.
+-- Assumes nothing.
+use Rattle.ucd.specs.Promises.{built}
+use Rattle.pairs.proofs.Taken.{used-taken}
+use borrow.Author.Needs.{needs}
+use Rattle.pairs.proofs.growing.add_read.Statement.{statement}
+use Rattle.pairs.proofs.growing.add_read.Tie as tie
+use Rattle.pairs.proofs.growing.add_read.Reads as reads
+use Rattle.pairs.proofs.growing.add_read.Lts as lts
+use Rattle.ucd.proofs.add_line.Reads as add-line-reads
+
+-- src/growing.rt:96:9
+add-line-requires : tie.Need-add-line-requires
+add-line-requires c κs = search needs
+
+-- src/growing.rt:98:21
+enum-known-added : tie.Need-enum-known-added
+enum-known-added c = search needs
+
+-- src/growing.rt:99:23
+enum-known-added-2 : tie.Need-enum-known-added-2
+enum-known-added-2 c = search needs
+
+-- src/growing.rt:86:1
+same-length : tie.Need-same-length
+same-length c = search needs
+
+-- src/growing.rt:86:1
+same-length-2 : tie.Need-same-length-2
+same-length-2 c = search needs
+
+-- src/growing.rt:86:1
+returns : tie.Need-returns
+returns c =
+    let known = c .before in
+    let called = known .before .before .before .before .before .before in
+    let s = called .before .before .before .before .before .before in
+    λ n bound goes. (
+      used-taken (built (s .args .state) (s .args .entries .now) (s .args .pool .now)) (s .args .line .now) (s .pre)
+          (known .added .given .0 .0) _ _ (rw (known .added .given .1) at (called .add-line .ensures)),
+      goes,
+    )
+
+-- src/growing.rt:86:1
+same-length-3 : tie.Need-same-length-3
+same-length-3 c = search needs
+
+-- src/growing.rt:86:1
+same-length-4 : tie.Need-same-length-4
+same-length-4 c = search needs
+
+-- src/growing.rt:86:1
+returns-2 : tie.Need-returns-2
+returns-2 c = search needs
+
+pub add-read-spec : {M : Type 1} → statement M
+add-read-spec =
+    tie.close
+    (tie.spec
+    add-line-requires
+    enum-known-added
+    enum-known-added-2
+    same-length
+    same-length-2
+    returns
+    same-length-3
+    same-length-4
+    returns-2)

@@ -1,0 +1,138 @@
+-- `pairs::growing::grow` promises a state within the slices. The loop's invariant: the three slices are as long as they were, the reader
+-- stands within the buffer, and what the state says is used lies within the slices. The measure is the steps that the reader has left.
+-- Assumes nothing.
+use mathlib.Core.Path.{_≡_, refl, sym, _∙_, subst}
+use native.Mathlib.Omega.{arith}
+use borrow.Author.Needs.{needs}
+use lib.ListN.{length}
+use Rattle.pairs.specs.Reading.{Stands, UsedWithin, AddedWithin}
+use Rattle.pairs.specs.declared.growing.Added.{Added}
+use Rattle.pairs.specs.declared.growing.Added.the-variants.{Taken, Done}
+use Rattle.pairs.proofs.Going.{stands-same, stands-anywhere}
+use Rattle.pairs.proofs.growing.grow.Statement.{statement}
+use Rattle.pairs.proofs.growing.grow.Tie as tie
+use Rattle.pairs.proofs.growing.grow.Reads as reads
+use Rattle.pairs.proofs.growing.grow.Lts as lts
+use Rattle.pairs.proofs.growing.add_next.Reads as add-next-reads
+use Rattle.pairs.proofs.reader.Reader.new.Reads as new-reads
+
+abbrev Inv-loop : tie.InvT-loop
+Inv-loop fd buffer₀ entries₀ pool₀ reader₀ state₀ buffer entries pool reader state =
+    (length buffer ≡ length buffer₀)
+    × (length entries ≡ length entries₀)
+    × (length pool ≡ length pool₀)
+    × Stands (length buffer₀) reader
+    × UsedWithin state (length entries₀) (length pool₀)
+
+abbrev μ-loop : tie.MeasureT-loop
+μ-loop fd buffer₀ entries₀ pool₀ reader₀ state₀ buffer entries pool reader state = reader .left
+
+-- where one line more was added: the loop's head, and what became of it
+abbrev head : tie.After-add-next Inv-loop μ-loop → tie.At-loop Inv-loop μ-loop
+head p = p .before .before .before .before
+
+became : (p : tie.After-add-next Inv-loop μ-loop) (x : Added) → p .add-next .result ≡ x
+    → let l = head p .loop in AddedWithin (length (l .buffer)) (l .reader .left) (length (l .entries)) (length (l .pool)) x
+became p x e =
+    let l = head p .loop in
+    subst (AddedWithin (length (l .buffer)) (l .reader .left) (length (l .entries)) (length (l .pool))) e (p .add-next .ensures)
+
+-- where it was taken
+abbrev called : tie.After-added Inv-loop μ-loop → tie.After-add-next Inv-loop μ-loop
+called k = k .before .before .before .before .before .before .before .before
+
+taken : (k : tie.After-added Inv-loop μ-loop)
+    → let l = head (called k) .loop in
+    AddedWithin (length (l .buffer)) (l .reader .left) (length (l .entries)) (length (l .pool))
+    (Taken (k .added .given .0 .0) (k .added .given .0 .1 .0))
+taken k = became (called k) (Taken (k .added .given .0 .0) (k .added .given .0 .1 .0)) (k .added .given .1)
+
+-- where it was the last
+abbrev called-last : tie.After-added2 Inv-loop μ-loop → tie.After-add-next Inv-loop μ-loop
+called-last k = k .before .before .before .before .before .before .before .before
+
+-- src/growing.rt:44:9
+new-requires : tie.Need-new-requires Inv-loop μ-loop
+new-requires c κs = search needs
+
+-- src/growing.rt:50:5
+loop-holds : tie.Need-loop-holds Inv-loop μ-loop
+loop-holds c = (
+  refl,
+  refl,
+  refl,
+  stands-anywhere (length (c .before .before .before .before .args .buffer .now)) (c .new .result) (c .new .ensures .0),
+  omega arith,
+)
+
+-- src/growing.rt:51:13
+add-next-requires : tie.Need-add-next-requires Inv-loop μ-loop
+add-next-requires c κs =
+    let l = c .before .before .before in
+    let inv = l .loop .inv in (
+      stands-same _ _ (l .loop .reader) (sym (inv .0)) (inv .3),
+      record { whole = omega (arith, inv .1, inv .4 .whole); parts = omega (arith, inv .2, inv .4 .parts) },
+    )
+
+-- src/growing.rt:53:26
+enum-known-added : tie.Need-enum-known-added Inv-loop μ-loop
+enum-known-added c = search needs
+
+-- src/growing.rt:50:5
+loop-less : tie.Need-loop-less Inv-loop μ-loop
+loop-less c = taken (c .before) .1 .falls
+
+-- src/growing.rt:50:5
+loop-again : tie.Need-loop-again Inv-loop μ-loop
+loop-again c =
+    let k = c .before in
+    let p = called k in
+    let inv = head p .loop .inv in (
+      omega (arith, p .add-next .kept .1 .0, inv .0),
+      omega (arith, p .add-next .kept .1 .1 .1 .1 .0, inv .1),
+      omega (arith, p .add-next .kept .1 .1 .1 .1 .1 .0, inv .2),
+      stands-same _ _ (k .added .given .0 .1 .0) (inv .0) (taken k .1 .stands),
+      record { whole = omega (arith, inv .1, taken k .0 .whole); parts = omega (arith, inv .2, taken k .0 .parts) },
+    )
+
+-- src/growing.rt:57:25
+enum-known-added-2 : tie.Need-enum-known-added-2 Inv-loop μ-loop
+enum-known-added-2 c = search needs
+
+-- src/growing.rt:58:17
+same-length : tie.Need-same-length Inv-loop μ-loop
+same-length c = let p = called-last (c .before) in p .add-next .kept .1 .0 ∙ head p .loop .inv .0
+
+-- src/growing.rt:58:17
+same-length-2 : tie.Need-same-length-2 Inv-loop μ-loop
+same-length-2 c = let p = called-last (c .before) in p .add-next .kept .1 .1 .1 .1 .0 ∙ head p .loop .inv .1
+
+-- src/growing.rt:58:17
+same-length-3 : tie.Need-same-length-3 Inv-loop μ-loop
+same-length-3 c = let p = called-last (c .before) in p .add-next .kept .1 .1 .1 .1 .1 .0 ∙ head p .loop .inv .2
+
+-- src/growing.rt:58:17
+returns : tie.Need-returns Inv-loop μ-loop
+returns c =
+    let k = c .before in
+    let p = called-last k in
+    let inv = head p .loop .inv in
+    rw (inv .1, inv .2) at (became p (Done (k .added2 .given .0 .0)) (k .added2 .given .1))
+
+pub grow-spec : {M : Type 1} → statement M
+grow-spec =
+    tie.close
+    (tie.spec
+    Inv-loop
+    μ-loop
+    new-requires
+    loop-holds
+    add-next-requires
+    enum-known-added
+    loop-less
+    loop-again
+    enum-known-added-2
+    same-length
+    same-length-2
+    same-length-3
+    returns)

@@ -1,0 +1,50 @@
+// The program `pairs` (document 01, "The program `pairs`"): it builds its table from `ucd.txt`, then prints for each line of
+// standard input how its two texts are ordered.
+//
+// What a program reads and writes can't stand in a contract: here every function is proved safe and ending, and what is decided of
+// a line, and the words that are printed, are contracts of the crates pairing, ucd and decompose.
+mod answers;
+mod growing;
+mod output;
+mod reader;
+
+use crate::growing::Grown;
+use libc::STDIN_FILENO;
+use table::TableCheck;
+use ucd::LineState;
+ghost use Rattle.pairs.specs.Reading.{UsedWithin};
+ghost use lib.ListN.{length};
+
+fn main() {
+    let mut buffer = io::large_buffer();
+    let mut entries = [0u32; 4096];
+    let mut pool = [0u32; 2048];
+    build(&mut buffer, &mut entries, &mut pool);
+}
+
+// Builds the table in the lent slices, and goes on if no line is refused.
+fn build(buffer: &mut [u8], entries: &mut [u32], pool: &mut [u32]) {
+    let grown = growing::grow_from(b"ucd.txt", buffer, entries, pool);
+    match grown {
+        Grown::Table(state) => start(state, buffer, entries, pool),
+        Grown::Refused(number) => output::refuse_table(number),
+    }
+}
+
+// Cuts the slices to what is used.
+fn start(state: LineState, buffer: &mut [u8], entries: &[u32], pool: &[u32])
+    requires { ⌜ UsedWithin state (length (now entries)) (length (now pool)) ⌝ }
+{
+    let used = state.entries_used * 4;
+    let parts = state.pool_used;
+    run(buffer, &entries[..used], &pool[..parts]);
+}
+
+// Checks the table once, and answers all lines.
+fn run(buffer: &mut [u8], entries: &[u32], pool: &[u32]) {
+    let check = decompose::check_table(entries, pool);
+    match check {
+        TableCheck::Accepted => answers::answer_all(STDIN_FILENO, buffer, entries, pool),
+        TableCheck::Refused(r) => output::refuse_table(r.number),
+    }
+}
