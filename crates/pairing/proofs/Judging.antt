@@ -1,7 +1,7 @@
 -- What is answered for a line, and what is left in the key buffers, in each of the three cases: it is too long, it has no tab, its
 -- texts are compared.
 -- Assumes nothing.
-use mathlib.Core.Path.{_≡_, refl, _∙_}
+use mathlib.Core.Path.{_≡_, _∙_}
 use Prim.Native.Nat.{ℕ, suc, _≤_, _<_}
 use mathlib.Core.Option.{none, some}
 use mathlib.Core.List.{List}

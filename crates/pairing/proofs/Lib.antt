@@ -1,3 +1,4 @@
+pub mod Cases
 pub mod Judging
 pub mod Numbers
 pub mod Writing

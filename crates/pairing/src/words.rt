@@ -2,7 +2,6 @@
 //
 // Each function asks for room for WORDS_MOST octets, more than any line has, and answers how many octets it wrote.
 use compare::Ordered;
-ghost use mathlib.Core.List.{[], _∷_, _++_};
 ghost use Prim.Native.Nat.{_+_, _≤_};
 ghost use lib.ListN.{length};
 ghost use Rattle.compare.specs.Compare.{orderTold};

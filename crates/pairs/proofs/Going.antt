@@ -3,7 +3,7 @@
 use mathlib.Core.Path.{_≡_}
 use Prim.Native.Nat.{ℕ, _≤_}
 use native.Mathlib.Omega.{arith}
-use Rattle.pairs.specs.Reading.{Stands, Goes, Part, Nexts, Steps}
+use Rattle.pairs.specs.Reading.{Stands, Goes, Nexts, Steps}
 use Rattle.pairs.specs.declared.reader.Reader.{Reader}
 use Rattle.pairs.specs.declared.reader.Next.{Next}
 use Rattle.pairs.specs.declared.reader.Next.the-variants.{Line, Long, Failed, End}

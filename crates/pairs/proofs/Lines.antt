@@ -5,7 +5,6 @@ use Prim.Native.Nat.{ℕ, _+_, _-_, _≤_}
 use native.Mathlib.Omega.{arith}
 use mathlib.Core.List.{List, _++_}
 use lib.ListN.{length, take, drop, length-append, length-take, length-drop}
-use Rattle.terms.specs.Lists.{over}
 use Rattle.terms.proofs.Parts.{take-drop, put-back}
 use Rattle.pairing.specs.Promises.{Puts}
 

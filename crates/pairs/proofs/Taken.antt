@@ -8,7 +8,7 @@ use mathlib.Core.Bool.{Bool, true, false}
 use mathlib.Core.Option.{Option, none, some}
 use mathlib.Core.List.{List, []}
 use lib.ListN.{length}
-use Rattle.terms.specs.Refusals.{answer, refused, given}
+use Rattle.terms.specs.Refusals.{answer, given}
 use Rattle.terms.specs.declared.Refusal.{Refusal}
 use Rattle.table.specs.Promises.{checkTold}
 use Rattle.table.specs.declared.TableCheck.{TableCheck}

@@ -11,6 +11,9 @@ ghost use lib.ListN.{length};
 ghost use Rattle.decompose.specs.TableCheck.{tableRefusal};
 ghost use Rattle.pairs.specs.Reading.{Stands, Answers, linesMost};
 
+// Room for a key, in octets.
+const KEY_OCTETS: usize = 12288;
+
 // The answer for the next line.
 pub enum Answered {
     Answer(Ordered, Reader),
@@ -24,8 +27,8 @@ pub fn answer_all(fd: i32, buffer: &mut [u8], entries: &[u32], pool: &[u32])
     requires { ⌜ tableRefusal (now entries) (now pool) ≡ none ⌝ }
 {
     let mut out = io::large_buffer();
-    let mut first_key = [0u8; 12288];
-    let mut second_key = [0u8; 12288];
+    let mut first_key = [0u8; KEY_OCTETS];
+    let mut second_key = [0u8; KEY_OCTETS];
     answer_lines(
         fd,
         buffer,

@@ -15,10 +15,15 @@ use ucd::LineState;
 ghost use Rattle.pairs.specs.Reading.{UsedWithin};
 ghost use lib.ListN.{length};
 
+// Room for the table: 1,024 entries of four numbers each, and 2,048 pool numbers.
+const ENTRY_NUMBERS: usize = 4096;
+
+const POOL_NUMBERS: usize = 2048;
+
 fn main() {
     let mut buffer = io::large_buffer();
-    let mut entries = [0u32; 4096];
-    let mut pool = [0u32; 2048];
+    let mut entries = [0u32; ENTRY_NUMBERS];
+    let mut pool = [0u32; POOL_NUMBERS];
     build(&mut buffer, &mut entries, &mut pool);
 }
 

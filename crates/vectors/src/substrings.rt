@@ -37,6 +37,7 @@ fn edges() {
     // The second text is invalid: octets.
     seek(3, b"a", b"\xFFa");
     seek(3, b"A", b"\xFFa");
+    seek(3, b"\xFFb", b"a\xFFb");
     // Collations 1 and 2.
     seek(1, b"a", b"Aa");
     seek(2, b"a", b"bA");

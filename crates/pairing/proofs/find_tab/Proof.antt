@@ -1,7 +1,7 @@
 -- `pairing::find_tab` meets its contract. The loop's invariant: no octet before the one reached is a tab. The measure is what is left.
 -- Assumes nothing.
 use mathlib.Core.Path.{_≡_, sym}
-use Prim.Native.Nat.{ℕ, _≤_, _<_, _-_}
+use Prim.Native.Nat.{ℕ, _<_, _-_}
 use native.Mathlib.Omega.{arith}
 use mathlib.Core.Bool.{false}
 use lib.ListN.{length, getD}
@@ -13,13 +13,14 @@ use Rattle.pairing.proofs.find_tab.Statement.{statement}
 use Rattle.pairing.proofs.find_tab.Tie as tie
 
 abbrev Inv-loop : tie.InvT-loop
-Inv-loop line i₀ i = (i ≤ length line) × ((k : ℕ) → k < i → isTab line k ≡ false)
+Inv-loop line i₀ i = (k : ℕ) → k < i → isTab line k ≡ false
 
 abbrev μ-loop : tie.MeasureT-loop
 μ-loop line i₀ i = length line - i
 
+-- nothing yet
 loop-holds : tie.Need-loop-holds Inv-loop μ-loop
-loop-holds c = (omega arith, λ k h. absurd (omega arith))
+loop-holds c = λ k h. absurd (omega arith)
 
 shared-slice-read-if1 : tie.Need-shared-slice-read-if1 Inv-loop μ-loop
 shared-slice-read-if1 c = omega arith
@@ -32,7 +33,7 @@ returns c =
     let i = l .loop .i in
     sym
     (lowest-is (isTab line) (length line) i (c .before .before .loop-test .taken) (eq-eqb (getD line i 0) 9 (c .if1 .taken))
-    (l .loop .inv .1))
+    (l .loop .inv))
 
 add-i : tie.Need-add-i Inv-loop μ-loop
 add-i c = omega arith
@@ -45,14 +46,14 @@ loop-again : tie.Need-loop-again Inv-loop μ-loop
 loop-again c =
     let l = c .before .before .before in
     let line = l .before .args .line .now in
-    (omega arith, below-more (λ k. isTab line k ≡ false) (l .loop .i) (l .loop .inv .1) (ne-eqb (getD line (l .loop .i) 0) 9 (c .if1 .left)))
+    below-more (λ k. isTab line k ≡ false) (l .loop .i) (l .loop .inv) (ne-eqb (getD line (l .loop .i) 0) 9 (c .if1 .left))
 
 -- the end
 returns-2 : tie.Need-returns-2 Inv-loop μ-loop
 returns-2 c =
     let l = c .before in
     let line = l .before .args .line .now in
-    sym (lowest-nowhere (isTab line) (length line) (λ k h. l .loop .inv .1 k (omega arith)))
+    sym (lowest-nowhere (isTab line) (length line) (λ k h. l .loop .inv k (omega arith)))
 
 pub find-tab-spec : {M : Type 1} → statement M
 find-tab-spec =

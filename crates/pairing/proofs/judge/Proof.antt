@@ -11,11 +11,6 @@ use Rattle.pairing.proofs.Judging.{judges-long, judges-tabless, judges-
 use borrow.Author.Needs.{needs}
 use Rattle.pairing.proofs.judge.Statement.{statement}
 use Rattle.pairing.proofs.judge.Tie as tie
-use Rattle.pairing.proofs.judge.Reads as reads
-use Rattle.pairing.proofs.judge.Lts as lts
-use Rattle.pairing.proofs.find_tab.Reads as find-tab-reads
-use Rattle.pairing.proofs.order_around.Reads as order-around-reads
-use Rattle.pairing.proofs.refuse.Reads as refuse-reads
 
 -- where the tab was looked for: the function's entry
 abbrev start : tie.After-find-tab → tie.Start
@@ -30,11 +25,10 @@ tab-below c =
     let line = start (c .before .before) .args .line .now in
     lowest-some (isTab line) (length line) (c .tab .given .0 .0) (tab-at c) .below
 
--- src/lib.rt:48:9
 refuse-requires : tie.Need-refuse-requires
 refuse-requires c κs = search needs
 
--- src/lib.rt:48:9
+-- over 8,193 octets
 returns : tie.Need-returns
 returns c =
     let s = c .before .before .before .before .before .before .before in
@@ -42,37 +36,31 @@ returns c =
     judges-long (a .line .now) (a .entries .now) (a .pool .now) (a .first-key .now) (a .second-key .now) (c .refuse .result)
     (c .before .if1 .taken) (c .refuse .ensures)
 
--- src/lib.rt:50:9
 find-tab-requires : tie.Need-find-tab-requires
 find-tab-requires c κs = search needs
 
--- src/lib.rt:52:17
 enum-known-tab : tie.Need-enum-known-tab
 enum-known-tab c = search needs
 
--- src/lib.rt:52:24
+-- a tab was found
 order-around-requires : tie.Need-order-around-requires
 order-around-requires c κs =
     let known = c .before .before .before in
     (tab-below known, start (known .before .before) .pre)
 
--- src/lib.rt:53:25
 enum-told : tie.Need-enum-told
 enum-told c = search needs
 
--- src/lib.rt:53:25
 refuse-requires-2 : tie.Need-refuse-requires-2
 refuse-requires-2 c κs = search needs
 
--- src/lib.rt:37:1
 same-length : tie.Need-same-length
 same-length c = search needs
 
--- src/lib.rt:37:1
 same-length-2 : tie.Need-same-length-2
 same-length-2 c = search needs
 
--- src/lib.rt:37:1
+-- the texts are compared
 returns-2 : tie.Need-returns-2
 returns-2 c =
     let called = c .before .before .before .before in
@@ -84,7 +72,7 @@ returns-2 c =
     (called .order-around .last .1 .1 .1 .1 .0) (called .order-around .last .1 .1 .1 .1 .1 .0)
     (found .before .if1 .left) (tab-at known) (called .order-around .ensures)
 
--- src/lib.rt:37:1
+-- no tab
 returns-3 : tie.Need-returns-3
 returns-3 c =
     let found = c .before .before .before in

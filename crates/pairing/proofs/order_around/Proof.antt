@@ -9,45 +9,35 @@ use Rattle.terms.proofs.Parts.{take-drop}
 use borrow.Author.Needs.{needs}
 use Rattle.pairing.proofs.order_around.Statement.{statement}
 use Rattle.pairing.proofs.order_around.Tie as tie
-use Rattle.pairing.proofs.order_around.Reads as reads
-use Rattle.pairing.proofs.order_around.Lts as lts
-use Rattle.compare.proofs.order_accepted.Reads as order-accepted-reads
 
--- src/lib.rt:69:16
 add-next : tie.Need-add-next
 add-next c = search needs
 
--- src/lib.rt:72:9
+-- the text before it
 slice-aggregate-order-accepted : tie.Need-slice-aggregate-order-accepted
 slice-aggregate-order-accepted c =
     let s = c .before .before .before .before .before .before in
     sym (length-take-le (s .args .at) (s .args .line .now) (omega (arith, s .pre .0)))
 
--- src/lib.rt:73:9
 sub-order-accepted : tie.Need-sub-order-accepted
 sub-order-accepted c = search needs
 
--- src/lib.rt:73:9
 part-order-accepted-start : tie.Need-part-order-accepted-start
 part-order-accepted-start c = search needs
 
--- src/lib.rt:73:9
 part-order-accepted-end : tie.Need-part-order-accepted-end
 part-order-accepted-end c = search needs
 
--- src/lib.rt:70:5
 order-accepted-requires : tie.Need-order-accepted-requires
 order-accepted-requires c κs = search needs
 
--- src/lib.rt:58:1
 same-length : tie.Need-same-length
 same-length c = search needs
 
--- src/lib.rt:58:1
 same-length-2 : tie.Need-same-length-2
 same-length-2 c = search needs
 
--- src/lib.rt:58:1
+-- the text after it
 returns : tie.Need-returns
 returns c =
     let called = c .before .before .before .before in

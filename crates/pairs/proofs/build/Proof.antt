@@ -7,25 +7,17 @@ use Rattle.pairs.specs.Reading.{UsedWithin, GrownWithin}
 use borrow.Author.Needs.{needs}
 use Rattle.pairs.proofs.build.Statement.{statement}
 use Rattle.pairs.proofs.build.Tie as tie
-use Rattle.pairs.proofs.build.Reads as reads
-use Rattle.pairs.proofs.build.Lts as lts
-use Rattle.pairs.proofs.growing.grow_from.Reads as grow-from-reads
-use Rattle.pairs.proofs.output.refuse_table.Reads as refuse-table-reads
-use Rattle.pairs.proofs.start.Reads as start-reads
 
--- src/main.rt:27:36
 slice-aggregate-grow-from : tie.Need-slice-aggregate-grow-from
 slice-aggregate-grow-from c = search needs
 
--- src/main.rt:27:9
 grow-from-requires : tie.Need-grow-from-requires
 grow-from-requires c κs = search needs
 
--- src/main.rt:29:22
 enum-known-grown : tie.Need-enum-known-grown
 enum-known-grown c = search needs
 
--- src/main.rt:29:32
+-- no line is refused
 start-requires : tie.Need-start-requires
 start-requires c κs =
     let k = c .before .before .before .before in
@@ -39,43 +31,33 @@ start-requires c κs =
       parts = omega (arith, grown .parts, p .grow-from .kept .1 .1 .1 .0);
     }
 
--- src/main.rt:30:24
 enum-known-grown-2 : tie.Need-enum-known-grown-2
 enum-known-grown-2 c = search needs
 
--- src/main.rt:30:35
 refuse-table-requires : tie.Need-refuse-table-requires
 refuse-table-requires c κs = search needs
 
--- src/main.rt:26:1
 same-length : tie.Need-same-length
 same-length c = search needs
 
--- src/main.rt:26:1
 same-length-2 : tie.Need-same-length-2
 same-length-2 c = search needs
 
--- src/main.rt:26:1
 same-length-3 : tie.Need-same-length-3
 same-length-3 c = search needs
 
--- src/main.rt:26:1
 returns : tie.Need-returns
 returns c = search needs
 
--- src/main.rt:26:1
 same-length-4 : tie.Need-same-length-4
 same-length-4 c = search needs
 
--- src/main.rt:26:1
 same-length-5 : tie.Need-same-length-5
 same-length-5 c = search needs
 
--- src/main.rt:26:1
 same-length-6 : tie.Need-same-length-6
 same-length-6 c = search needs
 
--- src/main.rt:26:1
 returns-2 : tie.Need-returns-2
 returns-2 c = search needs
 

@@ -2,14 +2,13 @@
 -- digit. The measure of the recursion is the number.
 -- Assumes nothing.
 use mathlib.Core.Path.{_≡_}
-use Prim.Native.Nat.{ℕ, _+_, _/_, _%_, _≤_, _<_}
+use Prim.Native.Nat.{ℕ, _/_, _%_, _≤_, _<_}
 use native.Mathlib.Omega.{arith}
-use mathlib.Core.List.{List, []}
+use mathlib.Core.List.{[]}
 use lib.ListN.{length, length-set}
-use Rattle.pairing.specs.Promises.{Puts}
 use Rattle.pairing.specs.Words.{digit, decimal, decimal-digit, decimal-more}
 use Rattle.pairing.proofs.Numbers.{length-decimal-more}
-use Rattle.pairing.proofs.Writing.{puts-none, puts-more, puts-length}
+use Rattle.pairing.proofs.Writing.{puts-none, puts-more}
 use borrow.Fn.Kinds.{In, Out}
 use borrow.Fn.PlainCycle.{Measures, is, falls, and}
 use Rattle.pairing.proofs.words.put_decimal.Reads as reads
@@ -60,15 +59,19 @@ room t p =
       s .pre .1,
     )
 
+-- a digit fits
 cast-out : (t : ℕ) → Of t lts.Need-cast-out
 cast-out t c = omega (arith, c .if1 .taken)
 
+-- and so does its octet
 add-out : (t : ℕ) → Of t lts.Need-add-out
 add-out t c = omega (arith, c .if1 .taken)
 
+-- room for it
 slice-write-out : (t : ℕ) → Of t lts.Need-slice-write-out
 slice-write-out t c = room-small t c
 
+-- as long as it was
 same-length : (t : ℕ) → Of t lts.Need-same-length
 same-length t c = simp length-set
 
@@ -98,9 +101,11 @@ add-out-2 t c = omega arith
 slice-write-out-2 : (t : ℕ) → Of t lts.Need-slice-write-out-2
 slice-write-out-2 t c = omega (arith, called t c .put-decimal .kept .1 .0, room t (called t c))
 
+-- the count is within the slice
 add-result : (t : ℕ) → Of t lts.Need-add-result
 add-result t c = omega (arith, room t (called t c), entry t (called t c) .good .1 .0)
 
+-- as long as it was
 same-length-2 : (t : ℕ) → Of t lts.Need-same-length-2
 same-length-2 t c = simp length-set (called t c .put-decimal .kept .1 .0)
 

@@ -30,6 +30,7 @@ loop-holds c = (omega arith, puts-none (c .args .out .now))
 shared-slice-read-out : tie.Need-shared-slice-read-out Inv-loop μ-loop
 shared-slice-read-out c = omega arith
 
+-- there is room
 slice-write-out : tie.Need-slice-write-out Inv-loop μ-loop
 slice-write-out c = omega (arith, as-long (c .before .before))
 
@@ -49,6 +50,7 @@ loop-again c =
           (omega (arith, l .before .pre)),
     )
 
+-- as long as it was
 same-length : tie.Need-same-length Inv-loop μ-loop
 same-length c = as-long (c .before)
 

@@ -3,98 +3,77 @@
 use borrow.Author.Needs.{needs}
 use Rattle.pairing.proofs.words.put_answer.Statement.{statement}
 use Rattle.pairing.proofs.words.put_answer.Tie as tie
-use Rattle.pairing.proofs.words.put_answer.Reads as reads
-use Rattle.pairing.proofs.words.put_answer.Lts as lts
-use Rattle.pairing.proofs.words.put.Reads as put-reads
-use Rattle.pairing.proofs.words.put_numbered.Reads as put-numbered-reads
 
--- src/words.rt:24:30
 enum-told : tie.Need-enum-told
 enum-told c = search needs
 
--- src/words.rt:24:30
 slice-aggregate-put : tie.Need-slice-aggregate-put
 slice-aggregate-put c = search needs
 
--- src/words.rt:24:26
 put-requires : tie.Need-put-requires
 put-requires c κs = search needs
 
--- src/words.rt:25:31
 enum-told-2 : tie.Need-enum-told-2
 enum-told-2 c = search needs
 
--- src/words.rt:25:31
 slice-aggregate-put-2 : tie.Need-slice-aggregate-put-2
 slice-aggregate-put-2 c = search needs
 
--- src/words.rt:25:27
 put-requires-2 : tie.Need-put-requires-2
 put-requires-2 c κs = search needs
 
--- src/words.rt:26:33
 enum-told-3 : tie.Need-enum-told-3
 enum-told-3 c = search needs
 
--- src/words.rt:26:33
 slice-aggregate-put-3 : tie.Need-slice-aggregate-put-3
 slice-aggregate-put-3 c = search needs
 
--- src/words.rt:26:29
 put-requires-3 : tie.Need-put-requires-3
 put-requires-3 c κs = search needs
 
--- src/words.rt:27:26
 enum-known-answer : tie.Need-enum-known-answer
 enum-known-answer c = search needs
 
--- src/words.rt:27:45
 slice-aggregate-put-numbered : tie.Need-slice-aggregate-put-numbered
 slice-aggregate-put-numbered c = search needs
 
--- src/words.rt:27:58
 cast-put-numbered : tie.Need-cast-put-numbered
 cast-put-numbered c = search needs
 
--- src/words.rt:27:32
 put-numbered-requires : tie.Need-put-numbered-requires
 put-numbered-requires c κs = search needs
 
--- src/words.rt:19:1
 same-length : tie.Need-same-length
 same-length c = search needs
 
--- src/words.rt:19:1
+-- less
 returns : tie.Need-returns
 returns c =
     let called = c .before .before in
     rw (called .before .before .before .enum-told .given .1) (called .put .ensures)
 
--- src/words.rt:19:1
 same-length-2 : tie.Need-same-length-2
 same-length-2 c = search needs
 
--- src/words.rt:19:1
+-- equal
 returns-2 : tie.Need-returns-2
 returns-2 c =
     let called = c .before .before in
     rw (called .before .before .before .enum-told2 .given .1) (called .put2 .ensures)
 
--- src/words.rt:19:1
 same-length-3 : tie.Need-same-length-3
 same-length-3 c = search needs
 
--- src/words.rt:19:1
+-- greater
 returns-3 : tie.Need-returns-3
 returns-3 c =
     let called = c .before .before in
     rw (called .before .before .before .enum-told3 .given .1) (called .put3 .ensures)
 
--- src/words.rt:19:1
 same-length-4 : tie.Need-same-length-4
 same-length-4 c = search needs
 
--- src/words.rt:19:1
+-- refused
 returns-4 : tie.Need-returns-4
 returns-4 c =
     let called = c .before .before in

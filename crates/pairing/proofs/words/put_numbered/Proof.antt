@@ -1,6 +1,6 @@
 -- `pairing::words::put_numbered` meets its contract: the word, the digits in the part after it, and the line end after both.
 -- Assumes nothing.
-use mathlib.Core.Path.{_≡_, _∙_}
+use mathlib.Core.Path.{_≡_}
 use Prim.Native.Nat.{ℕ, _+_, _-_, _≤_, _<_}
 use native.Mathlib.Omega.{arith}
 use mathlib.Core.List.{List, _++_}
@@ -13,10 +13,6 @@ use Rattle.pairing.proofs.Writing.{puts-length, puts-more, puts-append}
 use borrow.Author.Needs.{needs}
 use Rattle.pairing.proofs.words.put_numbered.Statement.{statement}
 use Rattle.pairing.proofs.words.put_numbered.Tie as tie
-use Rattle.pairing.proofs.words.put_numbered.Reads as reads
-use Rattle.pairing.proofs.words.put_numbered.Lts as lts
-use Rattle.pairing.proofs.words.put.Reads as put-reads
-use Rattle.pairing.proofs.words.put_decimal.Reads as put-decimal-reads
 
 -- where the word was put: the function's entry, that the slice kept its length, and that there is room for the digits and the line end
 abbrev entry : tie.After-put → tie.Start
@@ -66,47 +62,43 @@ length-joined d =
     puts-length (s .args .word .now ++ decimal (s .args .n)) (s .args .out .now) (at-end d) (joined d) (puts-joined d)
     (omega (arith, end-below d))
 
--- src/words.rt:60:9
 put-requires : tie.Need-put-requires
 put-requires c κs = search needs
 
--- src/words.rt:61:33
 sub-put-decimal : tie.Need-sub-put-decimal
 sub-put-decimal c = search needs
 
--- src/words.rt:61:33
 part-put-decimal-start : tie.Need-part-put-decimal-start
 part-put-decimal-start c = search needs
 
--- src/words.rt:61:33
 part-put-decimal-end : tie.Need-part-put-decimal-end
 part-put-decimal-end c = search needs
 
--- src/words.rt:61:9
+-- room for the digits
 put-decimal-requires : tie.Need-put-decimal-requires
 put-decimal-requires c κs =
     let p = c .before .before .before in
     rw (take-drop (p .put .result) (p .put .last .1 .0)) (omega (arith, room p, digits-few p, length-drop (p .put .result) (p .put .last .1 .0)))
 
--- src/words.rt:62:15
+-- the end is within the slice
 add-end : tie.Need-add-end
 add-end c = omega (arith, end-below (c .before .before), entry (word-put (c .before .before)) .good .1 .1 .0)
 
--- src/words.rt:63:5
+-- room for the line end
 slice-write-out : tie.Need-slice-write-out
 slice-write-out c =
     let d = c .before .before in
     rw (whole d) (omega (arith, length-joined d, end-below d))
 
--- src/words.rt:64:5
+-- as the end
 add-result : tie.Need-add-result
 add-result c = omega (arith, end-below (c .before .before), entry (word-put (c .before .before)) .good .1 .1 .0)
 
--- src/words.rt:56:1
+-- as long as it was
 same-length : tie.Need-same-length
 same-length c = let d = c .before .before in simp length-set (rw (whole d) (length-joined d))
 
--- src/words.rt:56:1
+-- the line end after the digits
 returns : tie.Need-returns
 returns c =
     let d = c .before .before in

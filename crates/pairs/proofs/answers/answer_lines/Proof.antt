@@ -13,13 +13,6 @@ use Rattle.pairs.specs.declared.answers.Answered.the-variants.{Answer as
 use Rattle.pairs.proofs.Going.{stands-same, stands-anywhere}
 use Rattle.pairs.proofs.answers.answer_lines.Statement.{statement}
 use Rattle.pairs.proofs.answers.answer_lines.Tie as tie
-use Rattle.pairs.proofs.answers.answer_lines.Reads as reads
-use Rattle.pairs.proofs.answers.answer_lines.Lts as lts
-use Rattle.pairs.proofs.answers.answer_next.Reads as answer-next-reads
-use Rattle.pairs.proofs.output.add_answer.Reads as add-answer-reads
-use Rattle.pairs.proofs.output.finish.Reads as finish-reads
-use Rattle.pairs.proofs.output.start.Reads as start-reads
-use Rattle.pairs.proofs.reader.Reader.new.Reads as new-reads
 
 abbrev Inv-loop : tie.InvT-loop
 Inv-loop fd buffer₀ entries pool first-key₀ second-key₀ out₀ reader₀ output₀ count₀ buffer first-key second-key out reader output count =
@@ -91,15 +84,14 @@ called-last k = k .before .before .before .before .before .before .before .befor
 abbrev finished : tie.After-slice-known10 Inv-loop μ-loop → tie.After-enum-told Inv-loop μ-loop
 finished c = c .before .before .before .before
 
--- src/answers.rt:52:9
 new-requires : tie.Need-new-requires Inv-loop μ-loop
 new-requires c κs = search needs
 
--- src/answers.rt:53:9
+-- room for two lines
 start-requires : tie.Need-start-requires Inv-loop μ-loop
 start-requires c κs = c .before .before .before .before .before .before .before .before .pre .1
 
--- src/answers.rt:55:5
+-- before the first line
 loop-holds : tie.Need-loop-holds Inv-loop μ-loop
 loop-holds c =
     let started = c .before .before in
@@ -114,53 +106,48 @@ loop-holds c =
       omega (arith, made .new .ensures .1),
     )
 
--- src/answers.rt:56:13
+-- within the buffer, as long as it was
 answer-next-requires : tie.Need-answer-next-requires Inv-loop μ-loop
 answer-next-requires c κs =
     let l = c .before .before .before in
     (stands-same _ _ (l .loop .reader) (sym (l .loop .inv .0)) (l .loop .inv .4), entry l .pre .0)
 
--- src/answers.rt:58:30
 enum-known-answered : tie.Need-enum-known-answered Inv-loop μ-loop
 enum-known-answered c = search needs
 
--- src/answers.rt:59:17
+-- room for one line more
 add-answer-requires : tie.Need-add-answer-requires Inv-loop μ-loop
 add-answer-requires c κs =
     let l = head (called (c .before .before)) in
     omega (arith, l .loop .inv .3, l .loop .inv .5)
 
--- src/answers.rt:61:21
+-- a failed write: each slice as long as it was
 same-length : tie.Need-same-length Inv-loop μ-loop
 same-length c = same-buffer (put-at (c .before .before .before))
 
--- src/answers.rt:61:21
 same-length-2 : tie.Need-same-length-2 Inv-loop μ-loop
 same-length-2 c = same-first (put-at (c .before .before .before))
 
--- src/answers.rt:61:21
 same-length-3 : tie.Need-same-length-3 Inv-loop μ-loop
 same-length-3 c = same-second (put-at (c .before .before .before))
 
--- src/answers.rt:61:21
 same-length-4 : tie.Need-same-length-4 Inv-loop μ-loop
 same-length-4 c = let a = c .before .before .before in a .add-answer .kept .1 .0 ∙ same-out (head (put-at a))
 
--- src/answers.rt:61:21
 returns : tie.Need-returns Inv-loop μ-loop
 returns c = tt
 
--- src/answers.rt:63:17
+-- fewer lines than steps
 add-count : tie.Need-add-count Inv-loop μ-loop
 add-count c =
     let a = c .before .before .before in
     omega (arith, told-at a .falls, head (put-at a) .loop .inv .6)
 
--- src/answers.rt:55:5
+-- an answer takes a step
 loop-less : tie.Need-loop-less Inv-loop μ-loop
 loop-less c = told-at (c .before .before .before) .falls
 
--- src/answers.rt:55:5
+-- one answer more
 loop-again : tie.Need-loop-again Inv-loop μ-loop
 loop-again c =
     let a = c .before .before .before in
@@ -175,15 +162,14 @@ loop-again c =
       omega (arith, told-at a .falls, inv .6),
     )
 
--- src/answers.rt:66:31
 enum-known-answered-2 : tie.Need-enum-known-answered-2 Inv-loop μ-loop
 enum-known-answered-2 c = search needs
 
--- src/answers.rt:55:5
+-- so does a failed read
 loop-less-2 : tie.Need-loop-less-2 Inv-loop μ-loop
 loop-less-2 c = nothing-at (c .before) .falls
 
--- src/answers.rt:55:5
+-- a failed read
 loop-again-2 : tie.Need-loop-again-2 Inv-loop μ-loop
 loop-again-2 c =
     let k = c .before in
@@ -198,33 +184,28 @@ loop-again-2 c =
       omega (arith, nothing-at k .falls, inv .6),
     )
 
--- src/answers.rt:70:39
 enum-told : tie.Need-enum-told Inv-loop μ-loop
 enum-told c = search needs
 
--- src/answers.rt:70:17
+-- room for the count
 finish-requires : tie.Need-finish-requires Inv-loop μ-loop
 finish-requires c κs =
     let l = head (called-last (c .before)) in
     omega (arith, l .loop .inv .3, l .loop .inv .5)
 
--- src/answers.rt:71:17
+-- the end: each slice as long as it was
 same-length-5 : tie.Need-same-length-5 Inv-loop μ-loop
 same-length-5 c = same-buffer (called-last (finished c))
 
--- src/answers.rt:71:17
 same-length-6 : tie.Need-same-length-6 Inv-loop μ-loop
 same-length-6 c = same-first (called-last (finished c))
 
--- src/answers.rt:71:17
 same-length-7 : tie.Need-same-length-7 Inv-loop μ-loop
 same-length-7 c = same-second (called-last (finished c))
 
--- src/answers.rt:71:17
 same-length-8 : tie.Need-same-length-8 Inv-loop μ-loop
 same-length-8 c = c .before .before .finish .kept .1 .0 ∙ same-out (head (called-last (finished c)))
 
--- src/answers.rt:71:17
 returns-2 : tie.Need-returns-2 Inv-loop μ-loop
 returns-2 c = tt
 

@@ -9,11 +9,6 @@ use Rattle.pairs.specs.declared.reader.Next.the-variants.{Line, Long, Fa
 use borrow.Author.Needs.{needs}
 use Rattle.pairs.proofs.answers.answer_next.Statement.{statement}
 use Rattle.pairs.proofs.answers.answer_next.Tie as tie
-use Rattle.pairs.proofs.answers.answer_next.Reads as reads
-use Rattle.pairs.proofs.answers.answer_next.Lts as lts
-use Rattle.pairing.proofs.judge.Reads as judge-reads
-use Rattle.pairing.proofs.refuse.Reads as refuse-reads
-use Rattle.pairs.proofs.reader.next_line.Reads as next-line-reads
 
 -- where the next line was asked for: the function's entry, and what came
 abbrev start : tie.After-next-line → tie.Start
@@ -33,89 +28,75 @@ line-came : (k : tie.After-next)
     (Line (k .next .given .0 .0) (k .next .given .0 .1 .0) (k .next .given .0 .1 .1 .0))
 line-came k = came (asked k) (Line (k .next .given .0 .0) (k .next .given .0 .1 .0) (k .next .given .0 .1 .1 .0)) (k .next .given .1)
 
--- src/answers.rt:90:9
 next-line-requires : tie.Need-next-line-requires
 next-line-requires c κs = search needs
 
--- src/answers.rt:92:20
 enum-known-next : tie.Need-enum-known-next
 enum-known-next c = search needs
 
--- src/answers.rt:93:24
+-- the part that is lent
 sub-line : tie.Need-sub-line
 sub-line c = line-came (c .before) .0 .ordered
 
--- src/answers.rt:93:24
+-- its start
 part-line-start : tie.Need-part-line-start
 part-line-start c = line-came (c .before .before) .0 .ordered
 
--- src/answers.rt:93:24
+-- its end
 part-line-end : tie.Need-part-line-end
 part-line-end c =
     let k = c .before .before in
     omega (arith, line-came k .0 .within, asked k .next-line .kept .1 .0)
 
--- src/answers.rt:94:17
 judge-requires : tie.Need-judge-requires
 judge-requires c κs = search needs
 
--- src/answers.rt:97:20
 enum-known-next-2 : tie.Need-enum-known-next-2
 enum-known-next-2 c = search needs
 
--- src/answers.rt:97:46
 refuse-requires : tie.Need-refuse-requires
 refuse-requires c κs = search needs
 
--- src/answers.rt:98:22
 enum-known-next-3 : tie.Need-enum-known-next-3
 enum-known-next-3 c = search needs
 
--- src/answers.rt:99:22
 enum-told : tie.Need-enum-told
 enum-told c = search needs
 
--- src/answers.rt:78:1
 same-length : tie.Need-same-length
 same-length c = search needs
 
--- src/answers.rt:78:1
 same-length-2 : tie.Need-same-length-2
 same-length-2 c = search needs
 
--- src/answers.rt:78:1
 same-length-3 : tie.Need-same-length-3
 same-length-3 c = search needs
 
--- src/answers.rt:78:1
+-- a line
 returns : tie.Need-returns
 returns c = line-came (c .before .before .before .before .before .before .before .before .before .before) .1
 
--- src/answers.rt:78:1
 same-length-4 : tie.Need-same-length-4
 same-length-4 c = search needs
 
--- src/answers.rt:78:1
+-- a line too long
 returns-2 : tie.Need-returns-2
 returns-2 c =
     let k = c .before .before in
     came (k .before .before .before .before) (Long (k .next2 .given .0 .0)) (k .next2 .given .1)
 
--- src/answers.rt:78:1
 same-length-5 : tie.Need-same-length-5
 same-length-5 c = search needs
 
--- src/answers.rt:78:1
+-- a failed read
 returns-3 : tie.Need-returns-3
 returns-3 c =
     let k = c .before in
     came (k .before .before .before .before) (Failed (k .next3 .given .0 .0)) (k .next3 .given .1)
 
--- src/answers.rt:78:1
 same-length-6 : tie.Need-same-length-6
 same-length-6 c = search needs
 
--- src/answers.rt:78:1
 returns-4 : tie.Need-returns-4
 returns-4 c = search needs
 

@@ -10,10 +10,6 @@ use Rattle.pairs.specs.declared.reader.Next.the-variants.{Line}
 use borrow.Author.Needs.{needs}
 use Rattle.pairs.proofs.growing.add_next.Statement.{statement}
 use Rattle.pairs.proofs.growing.add_next.Tie as tie
-use Rattle.pairs.proofs.growing.add_next.Reads as reads
-use Rattle.pairs.proofs.growing.add_next.Lts as lts
-use Rattle.pairs.proofs.growing.add_read.Reads as add-read-reads
-use Rattle.pairs.proofs.reader.next_line.Reads as next-line-reads
 
 -- where the next line was asked for: the function's entry, and what came
 abbrev start : tie.After-next-line → tie.Start
@@ -33,57 +29,48 @@ line-came : (k : tie.After-next)
     (Line (k .next .given .0 .0) (k .next .given .0 .1 .0) (k .next .given .0 .1 .1 .0))
 line-came k = came (asked k) (Line (k .next .given .0 .0) (k .next .given .0 .1 .0) (k .next .given .0 .1 .1 .0)) (k .next .given .1)
 
--- src/growing.rt:76:9
 next-line-requires : tie.Need-next-line-requires
 next-line-requires c κs = search needs
 
--- src/growing.rt:78:20
 enum-known-next : tie.Need-enum-known-next
 enum-known-next c = search needs
 
--- src/growing.rt:78:50
+-- the part that is lent
 sub-add-read : tie.Need-sub-add-read
 sub-add-read c = line-came (c .before) .0 .ordered
 
--- src/growing.rt:78:50
+-- its start
 part-add-read-start : tie.Need-part-add-read-start
 part-add-read-start c = line-came (c .before .before) .0 .ordered
 
--- src/growing.rt:78:50
+-- its end
 part-add-read-end : tie.Need-part-add-read-end
 part-add-read-end c =
     let k = c .before .before in
     omega (arith, line-came k .0 .within, asked k .next-line .kept .1 .0)
 
--- src/growing.rt:78:41
 add-read-requires : tie.Need-add-read-requires
 add-read-requires c κs = search needs
 
--- src/growing.rt:79:38
 enum-told : tie.Need-enum-told
 enum-told c = search needs
 
--- src/growing.rt:80:40
 enum-told-2 : tie.Need-enum-told-2
 enum-told-2 c = search needs
 
--- src/growing.rt:81:34
 enum-told-3 : tie.Need-enum-told-3
 enum-told-3 c = search needs
 
--- src/growing.rt:65:1
 same-length : tie.Need-same-length
 same-length c = search needs
 
--- src/growing.rt:65:1
 same-length-2 : tie.Need-same-length-2
 same-length-2 c = search needs
 
--- src/growing.rt:65:1
 same-length-3 : tie.Need-same-length-3
 same-length-3 c = search needs
 
--- src/growing.rt:65:1
+-- a line is added
 returns : tie.Need-returns
 returns c =
     let p = c .before .before .before .before in
@@ -91,27 +78,21 @@ returns c =
     let s = start (asked k) in
     p .add-read .ensures (length (s .args .buffer .now)) (s .args .reader .left) (line-came k .1)
 
--- src/growing.rt:65:1
 same-length-4 : tie.Need-same-length-4
 same-length-4 c = search needs
 
--- src/growing.rt:65:1
 returns-2 : tie.Need-returns-2
 returns-2 c = search needs
 
--- src/growing.rt:65:1
 same-length-5 : tie.Need-same-length-5
 same-length-5 c = search needs
 
--- src/growing.rt:65:1
 returns-3 : tie.Need-returns-3
 returns-3 c = search needs
 
--- src/growing.rt:65:1
 same-length-6 : tie.Need-same-length-6
 same-length-6 c = search needs
 
--- src/growing.rt:65:1
 returns-4 : tie.Need-returns-4
 returns-4 c = search needs
 

@@ -5,31 +5,23 @@ use Rattle.pairs.proofs.Taken.{used-taken}
 use borrow.Author.Needs.{needs}
 use Rattle.pairs.proofs.growing.add_read.Statement.{statement}
 use Rattle.pairs.proofs.growing.add_read.Tie as tie
-use Rattle.pairs.proofs.growing.add_read.Reads as reads
-use Rattle.pairs.proofs.growing.add_read.Lts as lts
-use Rattle.ucd.proofs.add_line.Reads as add-line-reads
 
--- src/growing.rt:96:9
 add-line-requires : tie.Need-add-line-requires
 add-line-requires c κs = search needs
 
--- src/growing.rt:98:21
 enum-known-added : tie.Need-enum-known-added
 enum-known-added c = search needs
 
--- src/growing.rt:99:23
 enum-known-added-2 : tie.Need-enum-known-added-2
 enum-known-added-2 c = search needs
 
--- src/growing.rt:86:1
 same-length : tie.Need-same-length
 same-length c = search needs
 
--- src/growing.rt:86:1
 same-length-2 : tie.Need-same-length-2
 same-length-2 c = search needs
 
--- src/growing.rt:86:1
+-- the line is taken
 returns : tie.Need-returns
 returns c =
     let known = c .before in
@@ -41,15 +33,12 @@ returns c =
       goes,
     )
 
--- src/growing.rt:86:1
 same-length-3 : tie.Need-same-length-3
 same-length-3 c = search needs
 
--- src/growing.rt:86:1
 same-length-4 : tie.Need-same-length-4
 same-length-4 c = search needs
 
--- src/growing.rt:86:1
 returns-2 : tie.Need-returns-2
 returns-2 c = search needs
 

@@ -11,10 +11,6 @@ use Rattle.pairs.specs.declared.growing.Added.the-variants.{Taken, Done}
 use Rattle.pairs.proofs.Going.{stands-same, stands-anywhere}
 use Rattle.pairs.proofs.growing.grow.Statement.{statement}
 use Rattle.pairs.proofs.growing.grow.Tie as tie
-use Rattle.pairs.proofs.growing.grow.Reads as reads
-use Rattle.pairs.proofs.growing.grow.Lts as lts
-use Rattle.pairs.proofs.growing.add_next.Reads as add-next-reads
-use Rattle.pairs.proofs.reader.Reader.new.Reads as new-reads
 
 abbrev Inv-loop : tie.InvT-loop
 Inv-loop fd buffer₀ entries₀ pool₀ reader₀ state₀ buffer entries pool reader state =
@@ -51,11 +47,10 @@ taken k = became (called k) (Taken (k .added .given .0 .0) (k .added .given .0 .
 abbrev called-last : tie.After-added2 Inv-loop μ-loop → tie.After-add-next Inv-loop μ-loop
 called-last k = k .before .before .before .before .before .before .before .before
 
--- src/growing.rt:44:9
 new-requires : tie.Need-new-requires Inv-loop μ-loop
 new-requires c κs = search needs
 
--- src/growing.rt:50:5
+-- before the first line
 loop-holds : tie.Need-loop-holds Inv-loop μ-loop
 loop-holds c = (
   refl,
@@ -65,7 +60,7 @@ loop-holds c = (
   omega arith,
 )
 
--- src/growing.rt:51:13
+-- within slices that are as long as they were
 add-next-requires : tie.Need-add-next-requires Inv-loop μ-loop
 add-next-requires c κs =
     let l = c .before .before .before in
@@ -74,15 +69,14 @@ add-next-requires c κs =
       record { whole = omega (arith, inv .1, inv .4 .whole); parts = omega (arith, inv .2, inv .4 .parts) },
     )
 
--- src/growing.rt:53:26
 enum-known-added : tie.Need-enum-known-added Inv-loop μ-loop
 enum-known-added c = search needs
 
--- src/growing.rt:50:5
+-- a line takes a step
 loop-less : tie.Need-loop-less Inv-loop μ-loop
 loop-less c = taken (c .before) .1 .falls
 
--- src/growing.rt:50:5
+-- one line more
 loop-again : tie.Need-loop-again Inv-loop μ-loop
 loop-again c =
     let k = c .before in
@@ -95,23 +89,20 @@ loop-again c =
       record { whole = omega (arith, inv .1, taken k .0 .whole); parts = omega (arith, inv .2, taken k .0 .parts) },
     )
 
--- src/growing.rt:57:25
 enum-known-added-2 : tie.Need-enum-known-added-2 Inv-loop μ-loop
 enum-known-added-2 c = search needs
 
--- src/growing.rt:58:17
+-- each slice as long as it was
 same-length : tie.Need-same-length Inv-loop μ-loop
 same-length c = let p = called-last (c .before) in p .add-next .kept .1 .0 ∙ head p .loop .inv .0
 
--- src/growing.rt:58:17
 same-length-2 : tie.Need-same-length-2 Inv-loop μ-loop
 same-length-2 c = let p = called-last (c .before) in p .add-next .kept .1 .1 .1 .1 .0 ∙ head p .loop .inv .1
 
--- src/growing.rt:58:17
 same-length-3 : tie.Need-same-length-3 Inv-loop μ-loop
 same-length-3 c = let p = called-last (c .before) in p .add-next .kept .1 .1 .1 .1 .1 .0 ∙ head p .loop .inv .2
 
--- src/growing.rt:58:17
+-- the last line, or a refusal
 returns : tie.Need-returns Inv-loop μ-loop
 returns c =
     let k = c .before in

@@ -1,6 +1,5 @@
 -- `pairs::output::add_answer` keeps room for one line more: the line that was put lies within the buffer.
 -- Assumes nothing.
-use mathlib.Core.Path.{_≡_}
 use Prim.Native.Nat.{_+_, _≤_}
 use native.Mathlib.Omega.{arith}
 use lib.ListN.{length}
@@ -8,10 +7,6 @@ use Rattle.pairs.proofs.Lines.{lined-within, lined-ends}
 use borrow.Author.Needs.{needs}
 use Rattle.pairs.proofs.output.add_answer.Statement.{statement}
 use Rattle.pairs.proofs.output.add_answer.Tie as tie
-use Rattle.pairs.proofs.output.add_answer.Reads as reads
-use Rattle.pairs.proofs.output.add_answer.Lts as lts
-use Rattle.pairing.proofs.put_answer.Reads as put-answer-reads
-use Rattle.pairs.proofs.output.write_front.Reads as write-front-reads
 
 -- where the line was put: the function's entry, and that the line ends within the buffer, which kept its length
 abbrev entry : tie.After-put-answer → tie.Start
@@ -26,27 +21,23 @@ ends p =
     lined-within (a .output .used) (a .out .now) (p .put-answer .last .1 .0) (room p) (p .put-answer .kept .1 .0) _ (p .put-answer .result)
     (p .put-answer .ensures)
 
--- src/output.rt:33:43
 sub-put-answer : tie.Need-sub-put-answer
 sub-put-answer c = search needs
 
--- src/output.rt:33:43
 part-put-answer-start : tie.Need-part-put-answer-start
 part-put-answer-start c = search needs
 
--- src/output.rt:33:43
 part-put-answer-end : tie.Need-part-put-answer-end
 part-put-answer-end c = search needs
 
--- src/output.rt:33:9
 put-answer-requires : tie.Need-put-answer-requires
 put-answer-requires c κs = search needs
 
--- src/output.rt:34:15
+-- the line ends within the buffer
 add-end : tie.Need-add-end
 add-end c = let p = c .before .before in omega (arith, ends p, entry p .good .1 .0)
 
--- src/output.rt:35:31
+-- and within what it is afterwards
 sub-if1 : tie.Need-sub-if1
 sub-if1 c =
     let p = c .before .before in
@@ -54,15 +45,13 @@ sub-if1 c =
     lined-ends (a .output .used) (a .out .now) (p .put-answer .last .1 .0) (room p) (p .put-answer .kept .1 .0) _ (p .put-answer .result)
     (p .put-answer .ensures)
 
--- src/output.rt:36:9
 same-length : tie.Need-same-length
 same-length c = search needs
 
--- src/output.rt:36:9
 returns : tie.Need-returns
 returns c = search needs
 
--- src/output.rt:41:9
+-- the same
 write-front-requires : tie.Need-write-front-requires
 write-front-requires c κs =
     let p = c .before .before .before .before in
@@ -70,11 +59,9 @@ write-front-requires c κs =
     lined-ends (a .output .used) (a .out .now) (p .put-answer .last .1 .0) (room p) (p .put-answer .kept .1 .0) _ (p .put-answer .result)
     (p .put-answer .ensures)
 
--- src/output.rt:28:1
 same-length-2 : tie.Need-same-length-2
 same-length-2 c = search needs
 
--- src/output.rt:28:1
 returns-2 : tie.Need-returns-2
 returns-2 c = search needs
 

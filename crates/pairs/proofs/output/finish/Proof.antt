@@ -1,6 +1,5 @@
 -- `pairs::output::finish` is safe and ends: the line that was put lies within the buffer.
 -- Assumes nothing.
-use mathlib.Core.Path.{_≡_}
 use Prim.Native.Nat.{_+_, _≤_}
 use native.Mathlib.Omega.{arith}
 use lib.ListN.{length}
@@ -8,10 +7,6 @@ use Rattle.pairs.proofs.Lines.{lined-within, lined-ends}
 use borrow.Author.Needs.{needs}
 use Rattle.pairs.proofs.output.finish.Statement.{statement}
 use Rattle.pairs.proofs.output.finish.Tie as tie
-use Rattle.pairs.proofs.output.finish.Reads as reads
-use Rattle.pairs.proofs.output.finish.Lts as lts
-use Rattle.pairing.proofs.put_count.Reads as put-count-reads
-use Rattle.pairs.proofs.output.write_front.Reads as write-front-reads
 
 -- where the line was put: the function's entry, and that the line ends within the buffer, which kept its length
 abbrev entry : tie.After-put-count → tie.Start
@@ -26,27 +21,23 @@ ends p =
     lined-within (a .output .used) (a .out .now) (p .put-count .last .1 .0) (room p) (p .put-count .kept .1 .0) _ (p .put-count .result)
     (p .put-count .ensures)
 
--- src/output.rt:53:41
 sub-put-count : tie.Need-sub-put-count
 sub-put-count c = search needs
 
--- src/output.rt:53:41
 part-put-count-start : tie.Need-part-put-count-start
 part-put-count-start c = search needs
 
--- src/output.rt:53:41
 part-put-count-end : tie.Need-part-put-count-end
 part-put-count-end c = search needs
 
--- src/output.rt:53:9
 put-count-requires : tie.Need-put-count-requires
 put-count-requires c κs = search needs
 
--- src/output.rt:54:15
+-- the line ends within the buffer
 add-end : tie.Need-add-end
 add-end c = let p = c .before .before in omega (arith, ends p, entry p .good .1 .0)
 
--- src/output.rt:55:5
+-- and within what it is afterwards
 write-front-requires : tie.Need-write-front-requires
 write-front-requires c κs =
     let p = c .before .before .before in
@@ -54,11 +45,9 @@ write-front-requires c κs =
     lined-ends (a .output .used) (a .out .now) (p .put-count .last .1 .0) (room p) (p .put-count .kept .1 .0) _ (p .put-count .result)
     (p .put-count .ensures)
 
--- src/output.rt:49:1
 same-length : tie.Need-same-length
 same-length c = search needs
 
--- src/output.rt:49:1
 returns : tie.Need-returns
 returns c = search needs
 

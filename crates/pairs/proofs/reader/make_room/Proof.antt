@@ -6,10 +6,6 @@ use lib.ListN.{length}
 use borrow.Author.Needs.{needs}
 use Rattle.pairs.proofs.reader.make_room.Statement.{statement}
 use Rattle.pairs.proofs.reader.make_room.Tie as tie
-use Rattle.pairs.proofs.reader.make_room.Reads as reads
-use Rattle.pairs.proofs.reader.make_room.Lts as lts
-use Rattle.pairs.proofs.reader.shift.Reads as shift-reads
-use Rattle.pairs.proofs.reader.wanted_from.Reads as wanted-from-reads
 
 -- where the wanted octets begin: the function's entry, and that they begin within what was read
 abbrev start : tie.After-wanted-from → tie.Start
@@ -18,27 +14,23 @@ start c = c .before .before
 wanted : (c : tie.After-wanted-from) → c .wanted-from .result ≤ start c .args .r .end
 wanted c = c .wanted-from .ensures (length (start c .args .buffer .now)) (start c .pre)
 
--- src/reader.rt:141:9
 wanted-from-requires : tie.Need-wanted-from-requires
 wanted-from-requires c κs = search needs
 
--- src/reader.rt:147:13
 returns : tie.Need-returns
 returns c = search needs
 
--- src/reader.rt:150:5
+-- what is wanted ends within the buffer
 shift-requires : tie.Need-shift-requires
 shift-requires c κs = (wanted (c .before .before), start (c .before .before) .pre .within)
 
--- src/reader.rt:151:16
+-- and begins before its end
 sub-rest : tie.Need-sub-rest
 sub-rest c = wanted (c .before .before .before .before .before)
 
--- src/reader.rt:137:1
 same-length : tie.Need-same-length
 same-length c = search needs
 
--- src/reader.rt:137:1
 returns-2 : tie.Need-returns-2
 returns-2 c = search needs
 

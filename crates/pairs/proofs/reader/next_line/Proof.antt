@@ -12,9 +12,6 @@ use Rattle.pairs.specs.declared.reader.Step.the-variants.{Answer, More}
 use Rattle.pairs.proofs.Going.{nexts-on, steps-on}
 use Rattle.pairs.proofs.reader.next_line.Statement.{statement}
 use Rattle.pairs.proofs.reader.next_line.Tie as tie
-use Rattle.pairs.proofs.reader.next_line.Reads as reads
-use Rattle.pairs.proofs.reader.next_line.Lts as lts
-use Rattle.pairs.proofs.reader.advance.Reads as advance-reads
 
 abbrev Inv-loop : tie.InvT-loop
 Inv-loop fd buffer₀ r₀ buffer r =
@@ -37,30 +34,27 @@ stepped p s e =
     steps-on n (length (l .before .before .args .buffer .now)) (suc (left - 1)) left (l .loop .inv .0) (omega arith) s
     (subst (Steps n (suc (left - 1))) e (p .advance .ensures))
 
--- src/reader.rt:70:5
+-- before the first step
 loop-holds : tie.Need-loop-holds Inv-loop μ-loop
 loop-holds c = (refl, c .before .pre, omega arith)
 
--- src/reader.rt:71:9
 sub-r : tie.Need-sub-r Inv-loop μ-loop
 sub-r c = search needs
 
--- src/reader.rt:72:13
+-- within a buffer that is as long as it was
 advance-requires : tie.Need-advance-requires Inv-loop μ-loop
 advance-requires c κs =
     let l = c .before .before .before .before in
     let inv = l .loop .inv in
     record { seen = inv .1 .seen; read = inv .1 .read; within = omega (arith, inv .0, inv .1 .within) }
 
--- src/reader.rt:74:26
 enum-known-step : tie.Need-enum-known-step Inv-loop μ-loop
 enum-known-step c = search needs
 
--- src/reader.rt:75:17
 same-length : tie.Need-same-length Inv-loop μ-loop
 same-length c = search needs
 
--- src/reader.rt:75:17
+-- something came
 returns : tie.Need-returns Inv-loop μ-loop
 returns c =
     let p = c .before .before .before .before .before in
@@ -70,17 +64,16 @@ returns c =
     nexts-on n n (l .loop .r .left) (a .reader .left) refl (l .loop .inv .2) (c .before .step .given .0 .0)
     (stepped p (Answer (c .before .step .given .0 .0)) (c .before .step .given .1))
 
--- src/reader.rt:77:24
 enum-known-step-2 : tie.Need-enum-known-step-2 Inv-loop μ-loop
 enum-known-step-2 c = search needs
 
--- src/reader.rt:70:5
+-- a step was taken
 loop-less : tie.Need-loop-less Inv-loop μ-loop
 loop-less c =
     let p = c .before .before .before .before .before in
     stepped p (More (c .before .step2 .given .0 .0)) (c .before .step2 .given .1) .falls
 
--- src/reader.rt:70:5
+-- nothing yet
 loop-again : tie.Need-loop-again Inv-loop μ-loop
 loop-again c =
     let p = c .before .before .before .before .before in
@@ -88,11 +81,9 @@ loop-again c =
     let goes = stepped p (More (c .before .step2 .given .0 .0)) (c .before .step2 .given .1) in
     (omega (arith, p .advance .kept .1 .0, l .loop .inv .0), goes .stands, omega (arith, goes .falls, l .loop .inv .2))
 
--- src/reader.rt:65:1
 same-length-2 : tie.Need-same-length-2 Inv-loop μ-loop
 same-length-2 c = search needs
 
--- src/reader.rt:65:1
 returns-2 : tie.Need-returns-2 Inv-loop μ-loop
 returns-2 c = search needs
 
