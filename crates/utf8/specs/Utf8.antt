@@ -1,5 +1,5 @@
 -- UTF-8 (RFC 3629): the octets of a code point, the character at the front of a text, the characters of a text.
--- `proofs/Laws.antt` shows that a text has characters exactly when it is the encoding of scalar code points, one after
+-- `proofs/Characters.antt` shows that a text has characters exactly when it is the encoding of scalar code points, one after
 -- another; so no overlong form, no surrogate, nothing above U+10FFFF and nothing cut off is a character.
 -- Assumes nothing.
 use Prim.Native.Nat.{ℕ, zero, suc, pred, _+_, _-_, _*_, _/_, _%_}

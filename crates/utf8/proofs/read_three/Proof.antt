@@ -51,7 +51,7 @@ not-taken w p =
 
 -- too few octets
 returns : tie.Need-returns
-returns c = let a = c .before .before .args in sym (three-short (a .x) (a .rest .now) (c .if1 .taken))
+returns c = let a = c .before .before .args in sym (three-short (a .x) (a .rest .now) (omega arith))
 
 shared-slice-read-wide : tie.Need-shared-slice-read-wide
 shared-slice-read-wide c = search needs
