@@ -1,7 +1,7 @@
 -- What a text is prepared to under each collation, and what is known where its key belongs in the buffer.
 -- Assumes nothing.
 use mathlib.Core.Path.{_≡_, refl, sym, ap, _∙_}
-use mathlib.Core.Bool.{true, false}
+use mathlib.Core.Bool.{true, false, true≢false}
 use mathlib.Core.Option.{Option, none, some}
 use mathlib.Core.List.{List, [], _∷_}
 use Prim.Native.Nat.{ℕ}
@@ -15,6 +15,7 @@ use Rattle.utf8.specs.Utf8.{Character, characters}
 use Rattle.decompose.specs.TableCheck.{tableRefusal}
 use Rattle.prepare.specs.Keys.{upper, Prepared, unicodePrepared, asciiPrepared, octetPrepared, prepared, keyed}
 use Rattle.prepare.specs.Calls.{tableUnder, truth, placeTold, summaryTold, preparedValues}
+use Rattle.prepare.specs.Promises.{KeyFilled}
 use Rattle.prepare.specs.declared.KeyPlace.the-variants.{Text, Buffer}
 use Rattle.prepare.specs.declared.Summary.{Summary}
 use Rattle.prepare.proofs.Answers.{truth-inj}
@@ -62,6 +63,13 @@ buffered-unicode k m t b other = go (ℕ-discrete k 3)
         let out : prepared k m t .buffered ≡ false = rw (prepared-octet k m t ne other) in
         let z : _≡_ {A = ℕ} 0 1 = cc in
         absurd (omega arith)
+
+-- an invalid text is its own key under collation 3, and the buffer stays
+pub filled-kept : (m : Mapping) (t buffer : List ℕ) (o : Option (List Character)) (s : Summary) → there o ≡ false
+    → summaryTold s ≡ 0 ∷ 0 ∷ length t ∷ 0 ∷ []
+    → KeyFilled (unicodePrepared m t o) buffer s buffer
+filled-kept m t buffer none s e h = record { told = h; left = refl }
+filled-kept m t buffer (some chs) s e h = absurd (true≢false e)
 
 -- ---- where the key belongs, by a summary's numbers
 

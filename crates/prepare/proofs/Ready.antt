@@ -1,30 +1,33 @@
 -- What is left of a call that passed 1 to 7: a summary's numbers say which refusal 8 is, and that the lookup count is within its bound.
 -- Assumes nothing.
 use mathlib.Core.Path.{_≡_, refl, sym, ap₂, _∙_}
-use Prim.Native.Nat.{ℕ, zero-le, _*_, _≤_}
+use Prim.Native.Nat.{ℕ, zero-le, _*_, _/_, _≤_}
 use native.Mathlib.Omega.{arith}
 use mathlib.Core.Bool.{Bool, true, false, cond}
 use mathlib.Core.Option.{Option, none, some}
 use mathlib.Core.List.{List, [], _∷_, _++_}
-use lib.Dec.{eqb}
+use lib.Dec.{leb, eqb}
 use lib.ListN.{length}
-use borrow.Author.Tests.{ltb-false}
+use borrow.Author.Tests.{eqb-true, leb-true, ltb-false, le-ltb}
 use Rattle.terms.specs.Lists.{orElse}
-use Rattle.terms.specs.Refusals.{given}
+use Rattle.terms.specs.Refusals.{expansionMost, given}
 use Rattle.terms.specs.declared.Refusal.{Refusal}
+use Rattle.terms.proofs.Tests.{both}
 use Rattle.table.specs.Mapping.{Mapping}
 use Rattle.table.specs.Table.{mappingOf}
 use Rattle.utf8.specs.Utf8.{Character, characters}
+use Rattle.utf8.proofs.Characters.{characters-count}
 use Rattle.decompose.specs.TableCheck.{tableRefusal}
-use Rattle.decompose.proofs.Demand3.{accepted-lookups}
+use Rattle.decompose.proofs.Demand3.{accepted-lookups, accepted-key}
 use Rattle.prepare.specs.Keys.{Prepared as Key, prepared, roomFor, keyed, unicodePrepared, asciiPrepared, octetPrepared}
 use Rattle.prepare.specs.Calls.{lent, tableUnder, roomCheck, roomChecks, truth, placeTold, summaryTold, preparedValues}
-use Rattle.prepare.specs.Promises.{neededAt, characterCount, roomNeeded, roomRefusal, PreparesReady, PreparesTwoReady}
+use Rattle.prepare.specs.Promises.{neededAt, characterCount, KeyFilled, roomy, roomNeeded, roomRefusal, PreparesReady, PreparesTwoReady}
 use Rattle.prepare.specs.declared.KeyPlace.{KeyPlace}
 use Rattle.prepare.specs.declared.KeyPlace.the-variants.{Text, Buffer}
 use Rattle.prepare.specs.declared.Summary.{Summary}
 use Rattle.prepare.specs.declared.Preparation.the-variants.{Prepared, Refused}
 use Rattle.prepare.specs.declared.PreparedPair.the-variants.{Both, Refused as Neither}
+use Rattle.prepare.proofs.Collations.{prepared-unicode, tableUnder-unicode}
 use Rattle.prepare.proofs.Joining.{orElse-none, when-none}
 
 -- ---- the room that a summary asks for
@@ -50,6 +53,10 @@ module _ (p : Key) (s : Summary) (sized : summaryTold s ≡ preparedValues p) wh
   room-enough place room e =
       ltb-false room (roomFor p) (when-none _ _ (sym (roomNeeded-roomCheck place room) ∙ e))
 
+  -- and one that has room passes it
+  pub room-none : (place room : ℕ) → roomFor p ≤ room → roomNeeded place room s ≡ none
+  room-none place room l = roomNeeded-roomCheck place room ∙ rw (le-ltb room (roomFor p) l)
+
   -- the lookup count is the definition's
   summary-count : s .lookups ≡ p .count
   summary-count = cc
@@ -73,6 +80,45 @@ prepared-count k t es pool e = by-collation (eqb k 3) (eqb k 2) e
     by-collation true two accepted = unicode accepted (characters t)
     by-collation false true e = zero-le
     by-collation false false e = zero-le
+
+-- ---- a buffer with room for any key of a text that long
+
+-- the key of a text over an accepted table has at most 128 octets for each of the text's
+pub key-most : (es pool t : List ℕ) → tableRefusal es pool ≡ none
+    → roomFor (unicodePrepared (mappingOf es pool) t (characters t)) ≤ expansionMost * length t
+key-most es pool t accepted = go (characters t) refl
+  where
+    go : (o : Option (List Character)) → characters t ≡ o
+        → roomFor (unicodePrepared (mappingOf es pool) t o) ≤ expansionMost * length t
+    go none e = zero-le
+    go (some chs) e = omega (arith, accepted-key es pool accepted chs, characters-count t chs e)
+
+-- a buffer that is roomy for a text has room for its key
+pub record Roomy (k n room : ℕ) : Type 0 where
+  pub unicode : k ≡ 3
+  pub enough : expansionMost * n ≤ room
+
+pub roomy-enough : (k n room : ℕ) → roomy k n room ≡ true → Roomy k n room
+roomy-enough k n room e =
+    let h = both (eqb k 3) (leb n (room / expansionMost)) e in
+    record { unicode = eqb-true k 3 (h .0); enough = omega (arith, leb-true n (room / expansionMost) (h .1)) }
+
+module _ (k : ℕ) (t es pool buffer : List ℕ) (table : tableUnder k es pool ≡ none) (r : Roomy k (length t) (length buffer))
+    (s : Summary) (after : List ℕ)
+    (filled : KeyFilled (unicodePrepared (mappingOf es pool) t (characters t)) buffer s after) where
+  -- what filling it came to is what preparing the text comes to
+  pub filled-told : summaryTold s ≡ preparedValues (prepared k (mappingOf es pool) t)
+  filled-told = rw (prepared-unicode k (mappingOf es pool) t (r .unicode)) (filled .told)
+
+  pub filled-left : after ≡ keyed (prepared k (mappingOf es pool) t) buffer
+  filled-left = rw (prepared-unicode k (mappingOf es pool) t (r .unicode)) (filled .left)
+
+  -- and 8 does not apply
+  pub filled-room : (place : ℕ) → roomNeeded place (length buffer) s ≡ none
+  filled-room place =
+      let accepted = tableUnder-unicode k es pool (r .unicode) table in
+      room-none (unicodePrepared (mappingOf es pool) t (characters t)) s (filled .told) place (length buffer)
+      (omega (arith, key-most es pool t accepted, r .enough))
 
 -- ---- one text
 

@@ -1,17 +1,18 @@
 -- What the contracts of the crate say with the definitions of the other files.
 -- Assumes nothing.
 use mathlib.Core.Path.{_≡_}
-use Prim.Native.Nat.{ℕ, _*_, _≤_}
+use Prim.Native.Nat.{ℕ, _*_, _/_, _≤_}
+use mathlib.Core.Bool.{Bool, _&&_}
 use mathlib.Core.Option.{Option, none, some}
 use mathlib.Core.List.{List, [], _∷_, _++_}
-use lib.Dec.{ltb}
+use lib.Dec.{leb, ltb, eqb}
 use lib.ListN.{length}
-use Rattle.terms.specs.Refusals.{check, first, answer, Told, refused, given}
+use Rattle.terms.specs.Refusals.{expansionMost, check, first, answer, Told, refused, given}
 use Rattle.terms.specs.declared.Refusal.{Refusal}
 use Rattle.table.specs.Mapping.{Mapping}
 use Rattle.table.specs.Table.{mappingOf}
 use Rattle.utf8.specs.Utf8.{Character, characters}
-use Rattle.prepare.specs.Keys.{prepared}
+use Rattle.prepare.specs.Keys.{Prepared as Key, prepared, keyed}
 use Rattle.prepare.specs.Calls.{lent, collationCheck, lengthCheck, roomChecks, bufferAfter, summaryTold, preparationTold, preparedValues, prepareAnswer, prepareLeaves, compareRefusal, firstLeaves, secondLeaves}
 use Rattle.prepare.specs.declared.KeyPlace.{KeyPlace}
 use Rattle.prepare.specs.declared.KeyPlace.the-variants.{Text, Buffer}
@@ -64,6 +65,15 @@ pub record PreparesReady (k : ℕ) (text : List ℕ) (m : Mapping) (buffer : Lis
       ≡ answer (roomChecks k m 1 (lent text buffer ∷ [])) (preparedValues (prepared k m text))
   pub left : after ≡ bufferAfter (roomChecks k m 1 (lent text buffer ∷ [])) (prepared k m text) buffer
   pub most : lookupsTold r ≤ 258 * characterCount (characters text)
+
+-- a key was written: what preparing its text comes to, and the key buffer
+pub record KeyFilled (p : Key) (buffer : List ℕ) (r : Summary) (after : List ℕ) : Type 0 where
+  pub told : summaryTold r ≡ preparedValues p
+  pub left : after ≡ keyed p buffer
+
+-- a key buffer has room for any key of a text of n octets: under collation 3 an octet of a text comes to at most 128 of its key
+abbrev pub roomy : ℕ → ℕ → ℕ → Bool
+roomy k n room = eqb k 3 && leb n (room / expansionMost)
 
 -- 8 by a summary's numbers
 abbrev pub roomNeeded : ℕ → ℕ → Summary → Option Refusal

@@ -10,7 +10,7 @@ ghost use lib.Dec.{eqb};
 ghost use Rattle.terms.specs.Lists.{orElse};
 ghost use Rattle.terms.specs.Refusals.{refusal};
 ghost use Rattle.prepare.specs.Calls.{tableUnder};
-ghost use Rattle.prepare.specs.Promises.{readinessTold, textsRefusal, roomNeeded};
+ghost use Rattle.prepare.specs.Promises.{readinessTold, textsRefusal, roomNeeded, roomy};
 
 // Whether a call on texts of these lengths passes 1 to 7.
 pub fn check_call(
@@ -98,4 +98,14 @@ fn refused(number: u32, place: u32, detail: usize) -> Readiness
         place,
         detail: detail as u64,
     })
+}
+
+// Whether a key buffer has room for any key of a text of so many octets, so that no key needs to be sized.
+pub fn is_roomy(collation: u32, text_length: usize, room: usize) -> bool
+    ensures { λ r. ⌜ r ≡ roomy collation «text_length» room ⌝ }
+{
+    if collation == terms::UNICODE_CASEMAP {
+        return text_length <= room / terms::EXPANSION_MOST;
+    }
+    false
 }

@@ -5,17 +5,18 @@ use terms::TextPosition;
 use utf8::Reading;
 ghost use mathlib.Core.Path.{_≡_};
 ghost use mathlib.Core.Bool.{true};
-ghost use mathlib.Core.List.{map};
+ghost use mathlib.Core.List.{[], _∷_, map};
 ghost use mathlib.Core.Option.{none};
-ghost use Prim.Native.Nat.{_≤_};
+ghost use Prim.Native.Nat.{_*_, _≤_};
 ghost use lib.ListN.{length};
 ghost use Rattle.terms.specs.Lists.{there, over};
-ghost use Rattle.terms.specs.Refusals.{textMost};
+ghost use Rattle.terms.specs.Refusals.{textMost, expansionMost};
 ghost use Rattle.table.specs.Table.{mappingOf};
 ghost use Rattle.utf8.specs.Utf8.{characters};
 ghost use Rattle.decompose.specs.TableCheck.{tableRefusal};
 ghost use Rattle.prepare.specs.Keys.{upper, unicodePrepared, prepared, roomFor, keyed};
 ghost use Rattle.prepare.specs.Calls.{tableUnder, summaryTold, preparedValues};
+ghost use Rattle.prepare.specs.Promises.{KeyFilled};
 
 // What preparing a text comes to, with nothing written.
 pub fn size_key(collation: u32, text: &[u8], entries: &[u32], pool: &[u32]) -> Summary
@@ -51,6 +52,7 @@ pub fn write_key(
     summary: Summary,
     key: &mut [u8],
 )
+    requires { ⌜ length (now text) ≤ textMost ⌝ }
     requires { ⌜ tableUnder collation (now entries) (now pool) ≡ none ⌝ }
     requires { ⌜ summaryTold summary ≡ preparedValues (prepared collation (mappingOf (now entries) (now pool)) (now text)) ⌝ }
     requires { ⌜ roomFor (prepared collation (mappingOf (now entries) (now pool)) (now text)) ≤ length (now key) ⌝ }
@@ -67,6 +69,20 @@ pub fn write_key(
             }
         }
     }
+}
+
+// Prepares a text under collation 3 in one walk that writes, without sizing its key first: the buffer has room for any.
+pub fn fill_unicode(text: &[u8], entries: &[u32], pool: &[u32], key: &mut [u8]) -> Summary
+    requires { ⌜ length (now text) ≤ textMost ⌝ }
+    requires { ⌜ tableRefusal (now entries) (now pool) ≡ none ⌝ }
+    requires { ⌜ expansionMost * length (now text) ≤ length (now key) ⌝ }
+    ensures { λ r. ⌜ KeyFilled (unicodePrepared (mappingOf (now (entries .entry)) (now (pool .entry))) (now (text .entry)) (characters (now (text .entry)))) (now (key .entry)) r (now (key .exit)) ⌝ }
+{
+    // An invalid text leaves the buffer, so the text is read to its end before the first octet is written.
+    if utf8::is_valid(text) {
+        return write_unicode(text, entries, pool, key);
+    }
+    kept(text.len())
 }
 
 // What preparing a text under collation 3 comes to.
@@ -88,12 +104,7 @@ fn size_unicode(text: &[u8], entries: &[u32], pool: &[u32]) -> Summary
                 lookups += sized.asks;
             }
             Reading::Malformed => {
-                return Summary {
-                    valid: false,
-                    lookups: 0,
-                    key_length: text.len(),
-                    place: KeyPlace::Text,
-                };
+                return kept(text.len());
             }
         }
     }
@@ -106,14 +117,16 @@ fn size_unicode(text: &[u8], entries: &[u32], pool: &[u32]) -> Summary
 }
 
 // Writes the key of a valid text under collation 3.
-fn write_unicode(text: &[u8], entries: &[u32], pool: &[u32], key: &mut [u8])
+fn write_unicode(text: &[u8], entries: &[u32], pool: &[u32], key: &mut [u8]) -> Summary
+    requires { ⌜ length (now text) ≤ textMost ⌝ }
     requires { ⌜ tableRefusal (now entries) (now pool) ≡ none ⌝ }
     requires { ⌜ there (characters (now text)) ≡ true ⌝ }
     requires { ⌜ roomFor (unicodePrepared (mappingOf (now entries) (now pool)) (now text) (characters (now text))) ≤ length (now key) ⌝ }
-    ensures { λ _. ⌜ now (key .exit) ≡ keyed (unicodePrepared (mappingOf (now (entries .entry)) (now (pool .entry))) (now (text .entry)) (characters (now (text .entry)))) (now (key .entry)) ⌝ }
+    ensures { λ r. ⌜ KeyFilled (unicodePrepared (mappingOf (now (entries .entry)) (now (pool .entry))) (now (text .entry)) (characters (now (text .entry)))) (now (key .entry)) r (now (key .exit)) ⌝ }
 {
     let mut at = 0;
     let mut end = 0;
+    let mut lookups: u64 = 0;
     while at < text.len() {
         let reading = utf8::read_character(text, TextPosition(at));
         match reading {
@@ -121,12 +134,31 @@ fn write_unicode(text: &[u8], entries: &[u32], pool: &[u32], key: &mut [u8])
                 let written = decompose::write_expansion(c, entries, pool, &mut key[end..]);
                 at += width;
                 end += written.octets;
+                lookups += written.asks;
             }
             // Never so: the text is valid.
             Reading::Malformed => {
-                return;
+                return kept(text.len());
             }
         }
+    }
+    Summary {
+        valid: true,
+        lookups,
+        key_length: end,
+        place: KeyPlace::Buffer,
+    }
+}
+
+// What preparing an invalid text of so many octets comes to: it is its own key.
+fn kept(text_length: usize) -> Summary
+    ensures { λ r. ⌜ summaryTold r ≡ 0 ∷ 0 ∷ «text_length» ∷ 0 ∷ [] ⌝ }
+{
+    Summary {
+        valid: false,
+        lookups: 0,
+        key_length: text_length,
+        place: KeyPlace::Text,
     }
 }
 

@@ -8,6 +8,8 @@ pub mod keys;
 use checks::check_call;
 use checks::check_room;
 use checks::check_texts;
+use checks::is_roomy;
+use keys::fill_unicode;
 use keys::size_key;
 use keys::write_key;
 use terms::Refusal;
@@ -189,6 +191,24 @@ fn prepare_ready(
     requires { ⌜ tableUnder collation (now entries) (now pool) ≡ none ⌝ }
     ensures { λ r. ⌜ PreparesReady collation (now (text .entry)) (mappingOf (now (entries .entry)) (now (pool .entry))) (now (key .entry)) r (now (key .exit)) ⌝ }
 {
+    if is_roomy(collation, text.len(), key.len()) {
+        return Preparation::Prepared(fill_unicode(text, entries, pool, key));
+    }
+    prepare_sized(collation, text, entries, pool, key)
+}
+
+// The same, the key being sized before it is written.
+fn prepare_sized(
+    collation: u32,
+    text: &[u8],
+    entries: &[u32],
+    pool: &[u32],
+    key: &mut [u8],
+) -> Preparation
+    requires { ⌜ length (now text) ≤ textMost ⌝ }
+    requires { ⌜ tableUnder collation (now entries) (now pool) ≡ none ⌝ }
+    ensures { λ r. ⌜ PreparesReady collation (now (text .entry)) (mappingOf (now (entries .entry)) (now (pool .entry))) (now (key .entry)) r (now (key .exit)) ⌝ }
+{
     let summary = size_key(collation, text, entries, pool);
     let room = check_room(1, summary, key.len());
     match room {
@@ -200,8 +220,41 @@ fn prepare_ready(
     }
 }
 
-// Prepares two texts, of a call that passed 1 to 7: both keys are sized before the first octet is written.
+// Prepares two texts, of a call that passed 1 to 7.
 fn prepare_two_ready(
+    collation: u32,
+    first: &[u8],
+    second: &[u8],
+    entries: &[u32],
+    pool: &[u32],
+    first_key: &mut [u8],
+    second_key: &mut [u8],
+) -> PreparedPair
+    requires { ⌜ length (now first) ≤ textMost ⌝ }
+    requires { ⌜ length (now second) ≤ textMost ⌝ }
+    requires { ⌜ tableUnder collation (now entries) (now pool) ≡ none ⌝ }
+    ensures { λ r. ⌜ PreparesTwoReady collation (now (first .entry)) (now (second .entry)) (mappingOf (now (entries .entry)) (now (pool .entry))) (now («first_key» .entry)) (now («second_key» .entry)) r (now («first_key» .exit)) (now («second_key» .exit)) ⌝ }
+{
+    if is_roomy(collation, first.len(), first_key.len()) {
+        if is_roomy(collation, second.len(), second_key.len()) {
+            let one = fill_unicode(first, entries, pool, first_key);
+            let two = fill_unicode(second, entries, pool, second_key);
+            return PreparedPair::Both(one, two);
+        }
+    }
+    prepare_two_sized(
+        collation,
+        first,
+        second,
+        entries,
+        pool,
+        first_key,
+        second_key,
+    )
+}
+
+// The same, both keys being sized before the first octet is written.
+fn prepare_two_sized(
     collation: u32,
     first: &[u8],
     second: &[u8],

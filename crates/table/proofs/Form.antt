@@ -17,7 +17,7 @@ use Rattle.terms.specs.Lists.{all, lowest, orElse, when}
 use Rattle.terms.specs.Refusals.{entriesMost, check, refusal}
 use Rattle.terms.specs.declared.Refusal.{Refusal}
 use Rattle.terms.proofs.Lists.{all-cons}
-use Rattle.terms.proofs.Lowest.{lowest-is, lowest-some, lowest-none}
+use Rattle.terms.proofs.Lowest.{lowest-is, lowest-some, lowest-none, lowest-nowhere}
 use Rattle.table.specs.Table.{entryCount, codeAt, titleAt, startAt, countAt, countsBelow, faultySize, notAbove, faultyCode, faultyEntry, poolLeft, faultyNumber, refusedAt, entryFault, formRefusal, entryOf, titleIn, titleOf, partsIn, partsOf}
 use Rattle.table.specs.Promises.{Ascending}
 
@@ -149,6 +149,11 @@ ascending-lt es up i (suc j) l m = go (ℕ-discrete i j) (λ h. ascending-lt es 
     go (yes e) below = rw e (up j m)
     go (no ne) below = omega (arith, below (omega arith), up j m)
 
+-- an entry is at least as far from the first as its code point is from the first one's
+pub ascending-from : (es : List ℕ) → Ascending es → (k : ℕ) → k < entryCount es → codeAt es 0 + k ≤ codeAt es k
+ascending-from es up zero l = omega arith
+ascending-from es up (suc k) l = omega (arith, ascending-from es up k (omega arith), up k l)
+
 -- an entry is the one of its code point
 pub entryOf-entry : (es : List ℕ) → Ascending es → (i : ℕ) → i < entryCount es → entryOf es (codeAt es i) ≡ some i
 unfolding entryOf
@@ -156,6 +161,12 @@ entryOf-entry es up i l =
     lowest-is (λ k. eqb (codeAt es k) (codeAt es i)) (entryCount es) i l
     (eq-eqb (codeAt es i) (codeAt es i) refl)
     (λ k h. ne-eqb (codeAt es k) (codeAt es i) (λ e. omega (arith, ascending-lt es up k i h l)))
+
+-- a code point that no entry has
+pub entryOf-none : (es : List ℕ) (c : ℕ) → ((k : ℕ) → k < entryCount es → codeAt es k ≡ c → ⊥) → entryOf es c ≡ none
+unfolding entryOf
+entryOf-none es c other =
+    lowest-nowhere (λ k. eqb (codeAt es k) c) (entryCount es) (λ k l. ne-eqb (codeAt es k) c (other k l))
 
 -- the entry of a code point is an entry, and has that code point
 pub entryOf-some : (es : List ℕ) (c i : ℕ) → entryOf es c ≡ some i → (i < entryCount es) × (codeAt es i ≡ c)

@@ -1,6 +1,6 @@
 -- The answers of the crate's functions in the paper's numbers, and what the functions on a table of the form ask for.
 -- Assumes nothing.
-use Prim.Native.Nat.{ℕ, suc, _<_}
+use Prim.Native.Nat.{ℕ, suc, _<_, _≤_}
 use mathlib.Core.Option.{Option, none, some}
 use mathlib.Core.List.{List, []}
 use Rattle.terms.specs.Refusals.{Told, refused, given}
@@ -23,3 +23,9 @@ placeTold Nowhere = none
 -- the code points of the entries ascend
 abbrev pub Ascending : List ℕ → Type 0
 Ascending es = (i : ℕ) → suc i < entryCount es → codeAt es i < codeAt es (suc i)
+
+-- the first `count` entries begin at or below a code point, and all others are above it
+pub record Reached (es : List ℕ) (c count : ℕ) : Type 0 where
+  pub within : count ≤ entryCount es
+  pub begin : 0 < count → codeAt es 0 ≤ c
+  pub above : (k : ℕ) → count ≤ k → k < entryCount es → c < codeAt es k

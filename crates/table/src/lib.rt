@@ -11,8 +11,8 @@ ghost use Prim.Native.Nat.{_<_, _≤_};
 ghost use lib.ListN.{length};
 ghost use Rattle.terms.specs.Lists.{lowest};
 ghost use Rattle.terms.specs.Refusals.{refusal, answer, entriesMost};
-ghost use Rattle.table.specs.Table.{entryCount, countsBelow, faultySize, faultyCode, faultyEntry, entryFault, faultyNumber, formRefusal, entryOf, titleOf, partsOf};
-ghost use Rattle.table.specs.Promises.{checkTold, placeTold, Ascending};
+ghost use Rattle.table.specs.Table.{entryCount, countsBelow, faultySize, faultyCode, faultyEntry, entryFault, faultyNumber, formRefusal, entryOf, partsOf};
+ghost use Rattle.table.specs.Promises.{checkTold, placeTold, Ascending, Reached};
 
 // What the check of a table answers.
 pub enum TableCheck {
@@ -55,32 +55,16 @@ pub fn find_entry(entries: &[u32], c: CodePoint) -> Place
     ensures { λ r. ⌜ placeTold r ≡ entryOf (now (entries .entry)) (c .0) ⌝ }
 {
     let sought = c.0;
-    let mut low = 0;
-    let mut high = entries.len() / 4;
-    while low < high {
-        let middle = low + (high - low) / 2;
-        let found = entries[middle * 4];
-        if found == sought {
-            return Place::At(middle);
-        }
-        if found < sought {
-            low = middle + 1;
-        } else {
-            high = middle;
-        }
+    let count = within_reach(entries, sought);
+    if count == 0 {
+        return Place::Nowhere;
     }
-    Place::Nowhere
-}
-
-// The titlecase of a code point, itself if it has none.
-pub fn title_of(entries: &[u32], c: CodePoint) -> CodePoint
-    requires { ⌜ Ascending (now entries) ⌝ }
-    ensures { λ r. ⌜ r .0 ≡ titleOf (now (entries .entry)) (c .0) ⌝ }
-{
-    if let Place::At(i) = find_entry(entries, c) {
-        return CodePoint(entries[i * 4 + 1]);
+    // Where the code points follow one another without a gap, as a to z do, the furthest within reach is the one.
+    let furthest = count - 1;
+    if entries[furthest * 4] == sought {
+        return Place::At(furthest);
     }
-    c
+    find_among(entries, sought, count)
 }
 
 // The decomposition of a code point, as a part of the pool; empty if it has none.
@@ -105,6 +89,51 @@ pub fn refused_at(number: u32, i: usize) -> TableCheck
         place: 0,
         detail: i as u64,
     })
+}
+
+// How many entries can be the one of a code point or stand before it: the code points ascend, so none is further from the first
+// entry than its code point from the first one's.
+fn within_reach(entries: &[u32], sought: u32) -> usize
+    requires { ⌜ Ascending (now entries) ⌝ }
+    ensures { λ r. ⌜ Reached (now (entries .entry)) sought r ⌝ }
+{
+    if entries.len() < 4 {
+        return 0;
+    }
+    let least = entries[0];
+    if sought < least {
+        return 0;
+    }
+    let reach = (sought - least) as usize + 1;
+    let count = entries.len() / 4;
+    if reach < count {
+        return reach;
+    }
+    count
+}
+
+// The entry of a code point among the first `count`, the first of which is at or below it. A turn asks one question, not also
+// whether this is the one: names hold the same letters again and again, and their ways are soon foreseen.
+fn find_among(entries: &[u32], sought: u32, count: usize) -> Place
+    requires { ⌜ Ascending (now entries) ⌝ }
+    requires { ⌜ Reached (now entries) sought count ⌝ }
+    requires { ⌜ 0 < count ⌝ }
+    ensures { λ r. ⌜ placeTold r ≡ entryOf (now (entries .entry)) sought ⌝ }
+{
+    let mut low = 0;
+    let mut size = count;
+    while 1 < size {
+        let half = size / 2;
+        let middle = low + half;
+        if entries[middle * 4] <= sought {
+            low = middle;
+        }
+        size -= half;
+    }
+    if entries[low * 4] == sought {
+        return Place::At(low);
+    }
+    Place::Nowhere
 }
 
 // Whether a slice has a length that 3 refuses.

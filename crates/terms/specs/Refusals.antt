@@ -34,6 +34,10 @@ levelsMost = 8
 abbrev pub fullMost : ℕ
 fullMost = 32
 
+-- the most octets of the expansion of one character over an accepted table (demand 3)
+abbrev pub expansionMost : ℕ
+expansionMost = 128
+
 -- the longest line of UnicodeData.txt that is taken, in octets (20)
 abbrev pub lineMost : ℕ
 lineMost = 512

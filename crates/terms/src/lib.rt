@@ -39,6 +39,8 @@ pub const PARTS_MOST: usize = 32;
 pub const LEVELS_MOST: usize = 8;
 
 pub const FULL_MOST: usize = 32;
+// The most octets of the expansion of one character over an accepted table.
+pub const EXPANSION_MOST: usize = 128;
 // The longest line of UnicodeData.txt that is taken, in octets.
 pub const LINE_MOST: usize = 512;
 

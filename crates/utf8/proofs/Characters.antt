@@ -9,7 +9,7 @@ use mathlib.Core.List.{List, [], _∷_, _++_, map}
 use Prim.Native.Nat.{ℕ, zero, suc, pred, _≤_, _<_}
 use native.Mathlib.Omega.{arith}
 use lib.Dec.{eqb}
-use lib.ListN.{length, drop, length-drop}
+use lib.ListN.{length, drop, length-drop, length-append}
 use lib.Seq.{drop-append-seam}
 use borrow.Author.Tests.{eq-eqb, eqb-true}
 use Rattle.terms.specs.Lists.{all, each}
@@ -159,6 +159,18 @@ sound-to (suc n) (a ∷ t) chs h e = sound-more n a t chs (decode (a ∷ t)) (so
 pub characters-sound : (t : List ℕ) (chs : List Character) → characters t ≡ some chs → Encoded t chs
 unfolding SoundTo
 characters-sound t chs e = sound-to (length t) t chs (omega arith) e
+
+-- every character takes an octet or more
+each-count : (chs : List Character) → length chs ≤ length (each (λ (ch : Character). encode (ch .code)) chs)
+unfolding each
+each-count [] = omega arith
+each-count (ch ∷ chs) =
+    let rest = each (λ (x : Character). encode (x .code)) chs in
+    omega (arith, encode-width (ch .code), each-count chs, length-append (encode (ch .code)) rest)
+
+-- so a text has at most as many characters as octets
+pub characters-count : (t : List ℕ) (chs : List Character) → characters t ≡ some chs → length chs ≤ length t
+characters-count t chs e = rw (characters-sound t chs e .octets) (each-count chs)
 
 codes : (cs : List ℕ)
     → map (λ (ch : Character). ch .code) (map (λ (c : ℕ). character c (length (encode c))) cs) ≡ cs

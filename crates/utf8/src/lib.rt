@@ -41,13 +41,18 @@ pub fn is_valid(text: &[u8]) -> bool
 {
     let mut at = 0;
     while at < text.len() {
-        let reading = read_character(text, TextPosition(at));
-        match reading {
-            Reading::Character(_, width) => {
-                at += width;
-            }
-            Reading::Malformed => {
-                return false;
+        let a = wide(text[at]);
+        if a < 0x80 {
+            at += 1;
+        } else {
+            let reading = read_longer(a, &text[at + 1..]);
+            match reading {
+                Reading::Character(_, width) => {
+                    at += width;
+                }
+                Reading::Malformed => {
+                    return false;
+                }
             }
         }
     }

@@ -1,79 +1,62 @@
--- `prepare::prepare_ready` meets its contract: what `check_room` answers of the size is 8, and where it is ready the key is written.
+-- `prepare::prepare_ready` meets its contract: in a roomy buffer 8 does not apply, and the key is filled in; else it is sized first.
 -- Assumes nothing.
-use mathlib.Core.Path.{_≡_, sym, ap, _∙_}
-use mathlib.Core.Option.{none}
+use mathlib.Core.Path.{_≡_, sym, _∙_}
 use lib.ListN.{length}
 use borrow.Author.Needs.{needs}
-use Rattle.table.specs.Table.{mappingOf}
-use Rattle.prepare.specs.Keys.{prepared}
-use Rattle.prepare.specs.Promises.{readinessTold, roomNeeded}
-use Rattle.prepare.proofs.Ready.{room-enough, preparesReady-written, preparesReady-refused}
+use Rattle.prepare.proofs.Collations.{tableUnder-unicode}
+use Rattle.prepare.proofs.Ready.{Roomy, roomy-enough, filled-told, filled-left, filled-room, preparesReady-written}
 use Rattle.prepare.proofs.prepare_ready.Statement.{statement}
 use Rattle.prepare.proofs.prepare_ready.Tie as tie
 
--- the function's entry, seen from past the sizing
-abbrev start : tie.After-size-key → tie.Start
-start c = c .before .before .before .before .before
+-- where the buffer is roomy: the function's entry, and that it is
+abbrev start : tie.Then1 → tie.Start
+start c = c .before .before .before .before .before .before
 
--- the key has room
-room : (c : tie.After-enum-told) → let sized = c .before .before .before in
-    roomNeeded 1 (length (start sized .args .key .now)) (sized .size-key .result) ≡ none
-room c = sym (c .before .before .check-room .ensures) ∙ ap readinessTold (c .enum-told .given .1)
+enough : (c : tie.Then1) → Roomy (start c .args .collation) (length (start c .args .text .now)) (length (start c .args .key .now))
+enough c = roomy-enough _ _ _ (sym (c .before .is-roomy .ensures) ∙ c .if1 .taken)
 
-size-key-requires : tie.Need-size-key-requires
-size-key-requires c κs = search needs
+is-roomy-requires : tie.Need-is-roomy-requires
+is-roomy-requires c κs = search needs
 
-check-room-requires : tie.Need-check-room-requires
-check-room-requires c κs = search needs
-
-enum-told : tie.Need-enum-told
-enum-told c = search needs
-
--- the key was sized and has room
-write-key-requires : tie.Need-write-key-requires
-write-key-requires c κs =
-    let sized = c .before .before .before .before in
-    let args = start sized .args in
-    let p = prepared (args .collation) (mappingOf (args .entries .now) (args .pool .now)) (args .text .now) in
-    let s = sized .size-key in
-    (start sized .pre .1, (s .ensures, room-enough p (s .result) (s .ensures) 1 (length (args .key .now)) (room (c .before))))
-
-enum-known-room : tie.Need-enum-known-room
-enum-known-room c = search needs
+-- the buffer is roomy
+fill-unicode-requires : tie.Need-fill-unicode-requires
+fill-unicode-requires c κs =
+    let r = c .before in
+    let s = start r in
+    let accepted =
+    tableUnder-unicode (s .args .collation) (s .args .entries .now) (s .args .pool .now) (enough r .unicode) (s .pre .1) in
+    (s .pre .0, (accepted, enough r .enough))
 
 same-length : tie.Need-same-length
 same-length c = search needs
 
--- written
+-- filled in
 returns : tie.Need-returns
 returns c =
     let called = c .before .before in
-    let ready = called .before .before in
-    let sized = ready .before .before .before in
-    let args = start sized .args in
-    preparesReady-written (args .collation) (args .text .now) (args .entries .now) (args .pool .now) (args .key .now)
-    (sized .size-key .result) (sized .size-key .ensures) _ (start sized .pre .1) (room ready) (called .write-key .ensures)
+    let r = called .before .before in
+    let s = start r in
+    let es = s .args .entries .now in
+    let pool = s .args .pool .now in
+    let k = s .args .collation in
+    let t = s .args .text .now in
+    let buffer = s .args .key .now in
+    let f = called .fill-unicode in
+    let e = enough r in
+    preparesReady-written k t es pool buffer (f .result) (filled-told k t es pool buffer (s .pre .1) e (f .result) _ (f .ensures)) _
+    (s .pre .1) (filled-room k t es pool buffer (s .pre .1) e (f .result) _ (f .ensures) 1)
+    (filled-left k t es pool buffer (s .pre .1) e (f .result) _ (f .ensures))
 
--- too little room
+prepare-sized-requires : tie.Need-prepare-sized-requires
+prepare-sized-requires c κs = search needs
+
+same-length-2 : tie.Need-same-length-2
+same-length-2 c = search needs
+
 returns-2 : tie.Need-returns-2
-returns-2 c =
-    let known = c .before in
-    let checked = known .before .before in
-    let sized = checked .before in
-    let args = start sized .args in
-    preparesReady-refused (args .collation) (args .text .now) (args .entries .now) (args .pool .now) (args .key .now)
-    (sized .size-key .result) (sized .size-key .ensures) _
-    (sym (checked .check-room .ensures) ∙ ap readinessTold (known .room .given .1))
+returns-2 c = search needs
 
 pub prepare-ready-spec : {M : Type 1} → statement M
 prepare-ready-spec =
     tie.close
-    (tie.spec
-    size-key-requires
-    check-room-requires
-    enum-told
-    write-key-requires
-    enum-known-room
-    same-length
-    returns
-    returns-2)
+    (tie.spec is-roomy-requires fill-unicode-requires same-length returns prepare-sized-requires same-length-2 returns-2)

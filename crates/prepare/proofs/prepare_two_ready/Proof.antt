@@ -1,115 +1,49 @@
--- `prepare::prepare_two_ready` meets its contract: what `check_room` answers of the two sizes is 8, and where it is ready for both
--- each key is written.
+-- `prepare::prepare_two_ready` meets its contract: where both buffers are roomy 8 does not apply, and both keys are filled in; else
+-- they are sized first.
 -- Assumes nothing.
-use mathlib.Core.Path.{_≡_, sym, ap, _∙_}
+use mathlib.Core.Path.{_≡_, sym, _∙_}
 use mathlib.Core.Option.{none}
 use lib.ListN.{length}
 use borrow.Author.Needs.{needs}
-use Rattle.table.specs.Mapping.{Mapping}
 use Rattle.table.specs.Table.{mappingOf}
-use Rattle.prepare.specs.Keys.{prepared}
-use Rattle.prepare.specs.Promises.{readinessTold, roomNeeded}
-use Rattle.prepare.proofs.Joining.{orElse-first, orElse-second}
-use Rattle.prepare.proofs.Ready.{room-enough, preparesTwoReady-written, preparesTwoReady-refused}
+use Rattle.decompose.specs.TableCheck.{tableRefusal}
+use Rattle.prepare.proofs.Collations.{tableUnder-unicode}
+use Rattle.prepare.proofs.Ready.{Roomy, roomy-enough, filled-told, filled-left, filled-room, preparesTwoReady-written}
 use Rattle.prepare.proofs.prepare_two_ready.Statement.{statement}
 use Rattle.prepare.proofs.prepare_two_ready.Tie as tie
 
--- the function's entry, seen from past the sizing, and the mapping there
-abbrev start : tie.After-size-key2 → tie.Start
-start c = c .before .before .before .before .before .before .before .before
+-- where both buffers are roomy: the function's entry, and that they are
+abbrev start : tie.Then2 → tie.Start
+start c = c .before .before .before .before .before .before .before .before .before .before
 
-abbrev mapping : tie.After-size-key2 → Mapping
-mapping c = mappingOf (start c .args .entries .now) (start c .args .pool .now)
+first : (c : tie.Then2)
+    → Roomy (start c .args .collation) (length (start c .args .first .now)) (length (start c .args .first-key .now))
+first c =
+    let one = c .before .before in
+    roomy-enough _ _ _ (sym (one .before .is-roomy .ensures) ∙ one .if1 .taken)
 
--- the first key has room
-room : (c : tie.After-enum-told) → let sized = c .before .before .before in
-    roomNeeded 1 (length (start sized .args .first-key .now)) (sized .before .size-key .result) ≡ none
-room c = sym (c .before .before .check-room .ensures) ∙ ap readinessTold (c .enum-told .given .1)
+second : (c : tie.Then2)
+    → Roomy (start c .args .collation) (length (start c .args .second .now)) (length (start c .args .second-key .now))
+second c = roomy-enough _ _ _ (sym (c .before .is-roomy2 .ensures) ∙ c .if2 .taken)
 
--- the second key has room
-room-2 : (c : tie.After-enum-told2) → let sized = c .before .before .before .before .before .before in
-    roomNeeded 2 (length (start sized .args .second-key .now)) (sized .size-key2 .result) ≡ none
-room-2 c = sym (c .before .before .check-room2 .ensures) ∙ ap readinessTold (c .enum-told2 .given .1)
+accepted : (c : tie.Then2) → tableRefusal (start c .args .entries .now) (start c .args .pool .now) ≡ none
+accepted c =
+    let s = start c in
+    tableUnder-unicode (s .args .collation) (s .args .entries .now) (s .args .pool .now) (first c .unicode) (s .pre .1 .1)
 
-size-key-requires : tie.Need-size-key-requires
-size-key-requires c κs = search needs
+is-roomy-requires : tie.Need-is-roomy-requires
+is-roomy-requires c κs = search needs
 
-size-key-requires-2 : tie.Need-size-key-requires-2
-size-key-requires-2 c κs = search needs
+is-roomy-requires-2 : tie.Need-is-roomy-requires-2
+is-roomy-requires-2 c κs = search needs
 
-check-room-requires : tie.Need-check-room-requires
-check-room-requires c κs = search needs
+-- both buffers are roomy
+fill-unicode-requires : tie.Need-fill-unicode-requires
+fill-unicode-requires c κs = let r = c .before in (start r .pre .0, (accepted r, first r .enough))
 
-enum-known-r : tie.Need-enum-known-r
-enum-known-r c = search needs
-
--- too little room for the first key
-returns : tie.Need-returns
-returns c =
-    let known = c .before in
-    let checked = known .before .before in
-    let sized = checked .before in
-    let args = start sized .args in
-    let one = sized .before .size-key in
-    let two = sized .size-key2 in
-    preparesTwoReady-refused (args .collation) (args .first .now) (args .second .now) (mapping sized)
-    (args .first-key .now) (args .second-key .now) (one .result) (two .result) (one .ensures) (two .ensures) _
-    (orElse-first (roomNeeded 1 (length (args .first-key .now)) (one .result))
-    (roomNeeded 2 (length (args .second-key .now)) (two .result)) _
-    (sym (checked .check-room .ensures) ∙ ap readinessTold (known .r .given .1)))
-
-enum-told : tie.Need-enum-told
-enum-told c = search needs
-
-check-room-requires-2 : tie.Need-check-room-requires-2
-check-room-requires-2 c κs = search needs
-
-enum-known-r-2 : tie.Need-enum-known-r-2
-enum-known-r-2 c = search needs
-
--- too little room for the second key
-returns-2 : tie.Need-returns-2
-returns-2 c =
-    let known = c .before in
-    let checked = known .before .before in
-    let told = checked .before in
-    let sized = told .before .before .before in
-    let args = start sized .args in
-    let one = sized .before .size-key in
-    let two = sized .size-key2 in
-    preparesTwoReady-refused (args .collation) (args .first .now) (args .second .now) (mapping sized)
-    (args .first-key .now) (args .second-key .now) (one .result) (two .result) (one .ensures) (two .ensures) _
-    (orElse-second (roomNeeded 1 (length (args .first-key .now)) (one .result))
-    (roomNeeded 2 (length (args .second-key .now)) (two .result)) (room told)
-    ∙ sym (checked .check-room2 .ensures)
-    ∙ ap readinessTold (known .r2 .given .1))
-
-enum-told-2 : tie.Need-enum-told-2
-enum-told-2 c = search needs
-
--- the first key was sized and has room
-write-key-requires : tie.Need-write-key-requires
-write-key-requires c κs =
-    let told = c .before .before .before .before in
-    let sized = told .before .before .before in
-    let args = start sized .args in
-    let p = prepared (args .collation) (mapping sized) (args .first .now) in
-    let one = sized .before .size-key in (
-      start sized .pre .1 .1,
-      (one .ensures, room-enough p (one .result) (one .ensures) 1 (length (args .first-key .now)) (room told)),
-    )
-
--- the second key was sized and has room
-write-key-requires-2 : tie.Need-write-key-requires-2
-write-key-requires-2 c κs =
-    let told = c .before .before .before .before .before in
-    let sized = told .before .before .before .before .before .before in
-    let args = start sized .args in
-    let p = prepared (args .collation) (mapping sized) (args .second .now) in
-    let two = sized .size-key2 in (
-      start sized .pre .1 .1,
-      (two .ensures, room-enough p (two .result) (two .ensures) 2 (length (args .second-key .now)) (room-2 told)),
-    )
+fill-unicode-requires-2 : tie.Need-fill-unicode-requires-2
+fill-unicode-requires-2 c κs =
+    let r = c .before .before .before .before .before in (start r .pre .1 .0, (accepted r, second r .enough))
 
 same-length : tie.Need-same-length
 same-length c = search needs
@@ -117,37 +51,53 @@ same-length c = search needs
 same-length-2 : tie.Need-same-length-2
 same-length-2 c = search needs
 
--- both were written
-returns-3 : tie.Need-returns-3
-returns-3 c =
-    let called2 = c .before .before in
-    let called = called2 .before .before .before .before in
-    let told2 = called .before .before in
-    let told = told2 .before .before .before in
-    let sized = told .before .before .before in
-    let args = start sized .args in
-    let one = sized .before .size-key in
-    let two = sized .size-key2 in
-    preparesTwoReady-written (args .collation) (args .first .now) (args .second .now) (mapping sized)
-    (args .first-key .now) (args .second-key .now) (one .result) (two .result) (one .ensures) (two .ensures) _ _
-    (room told) (room-2 told2) (called .write-key .ensures) (called2 .write-key2 .ensures)
+-- both filled in
+returns : tie.Need-returns
+returns c =
+    let r = c .before .before .before .before .before .before .before .before in
+    let s = start r in
+    let es = s .args .entries .now in
+    let pool = s .args .pool .now in
+    let k = s .args .collation in
+    let t = s .args .first .now in
+    let u = s .args .second .now in
+    let one = c .before .before .before .before .before .before .fill-unicode in
+    let two = c .before .before .fill-unicode2 in
+    let table = s .pre .1 .1 in
+    let b = s .args .first-key .now in
+    let d = s .args .second-key .now in
+    preparesTwoReady-written k t u (mappingOf es pool) b d (one .result) (two .result)
+    (filled-told k t es pool b table (first r) (one .result) _ (one .ensures))
+    (filled-told k u es pool d table (second r) (two .result) _ (two .ensures)) _ _
+    (filled-room k t es pool b table (first r) (one .result) _ (one .ensures) 1)
+    (filled-room k u es pool d table (second r) (two .result) _ (two .ensures) 2)
+    (filled-left k t es pool b table (first r) (one .result) _ (one .ensures))
+    (filled-left k u es pool d table (second r) (two .result) _ (two .ensures))
+
+prepare-two-sized-requires : tie.Need-prepare-two-sized-requires
+prepare-two-sized-requires c κs = search needs
+
+same-length-3 : tie.Need-same-length-3
+same-length-3 c = search needs
+
+same-length-4 : tie.Need-same-length-4
+same-length-4 c = search needs
+
+returns-2 : tie.Need-returns-2
+returns-2 c = search needs
 
 pub prepare-two-ready-spec : {M : Type 1} → statement M
 prepare-two-ready-spec =
     tie.close
     (tie.spec
-    size-key-requires
-    size-key-requires-2
-    check-room-requires
-    enum-known-r
-    returns
-    enum-told
-    check-room-requires-2
-    enum-known-r-2
-    returns-2
-    enum-told-2
-    write-key-requires
-    write-key-requires-2
+    is-roomy-requires
+    is-roomy-requires-2
+    fill-unicode-requires
+    fill-unicode-requires-2
     same-length
     same-length-2
-    returns-3)
+    returns
+    prepare-two-sized-requires
+    same-length-3
+    same-length-4
+    returns-2)

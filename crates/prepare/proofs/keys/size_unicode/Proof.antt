@@ -108,14 +108,19 @@ loop-again c = more (c .before .before)
 enum-told : tie.Need-enum-told Inv-loop μ-loop
 enum-told c = search needs
 
+kept-requires : tie.Need-kept-requires Inv-loop μ-loop
+kept-requires c κs = search needs
+
 -- no character
 returns : tie.Need-returns Inv-loop μ-loop
 returns c =
-    let called = c .before .before in
+    let told = c .before in
+    let called = told .before .before in
     let l = called .before .before in
     let e : decode (drop (l .loop .at) (text-of l)) ≡ none =
-    sym (called .read-character .ensures) ∙ ap readingTold (c .enum-told .given .1) in
-    sym
+    sym (called .read-character .ensures) ∙ ap readingTold (told .enum-told .given .1) in
+    c .kept .ensures
+    ∙ sym
     (sizing-stop (mapping l) (text-of l) (l .loop .at) (l .loop .octets) (l .loop .lookups) (l .loop .inv)
     (called .before .loop-test .taken) e)
 
@@ -142,5 +147,6 @@ size-unicode-spec =
     loop-less
     loop-again
     enum-told
+    kept-requires
     returns
     returns-2)

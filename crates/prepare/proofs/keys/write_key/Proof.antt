@@ -28,7 +28,7 @@ abbrev start : tie.After-enum-told2 → tie.Start
 start c = c .before .before .before .before .before .before
 
 buffered : (c : tie.After-enum-told2) → made (start c) .buffered ≡ true
-buffered c = summary-buffered (start c .args .summary) (made (start c)) (start c .pre .1 .0) (c .enum-told2 .given .1)
+buffered c = summary-buffered (start c .args .summary) (made (start c)) (start c .pre .1 .1 .0) (c .enum-told2 .given .1)
 
 unicode : (c : tie.After-enum-told2) → (start c .args .collation ≡ 2 → ⊥)
     → (start c .args .collation ≡ 3) × (there (characters (start c .args .text .now)) ≡ true)
@@ -47,7 +47,7 @@ write-ascii-requires : tie.Need-write-ascii-requires
 write-ascii-requires c κs =
     let s = start (c .before .before) in
     let room =
-    rw (prepared-ascii (s .args .collation) (mapping s) (s .args .text .now) (c .before .if1 .taken)) at (s .pre .1 .1) in
+    rw (prepared-ascii (s .args .collation) (mapping s) (s .args .text .now) (c .before .if1 .taken)) at (s .pre .1 .1 .1) in
     omega (arith, room, length-map (s .args .text .now) upper)
 
 -- collation 3, and the text is valid
@@ -55,15 +55,18 @@ write-unicode-requires : tie.Need-write-unicode-requires
 write-unicode-requires c κs =
     let s = start (c .before .before) in
     let h = unicode (c .before .before) (c .before .if1 .left) in (
-      tableUnder-unicode (s .args .collation) (s .args .entries .now) (s .args .pool .now) (h .0) (s .pre .0),
-      (h .1, rw (prepared-unicode (s .args .collation) (mapping s) (s .args .text .now) (h .0)) at (s .pre .1 .1)),
+      s .pre .0,
+      (
+        tableUnder-unicode (s .args .collation) (s .args .entries .now) (s .args .pool .now) (h .0) (s .pre .1 .0),
+        (h .1, rw (prepared-unicode (s .args .collation) (mapping s) (s .args .text .now) (h .0)) at (s .pre .1 .1 .1)),
+      ),
     )
 
 -- the key is the text
 returns : tie.Need-returns
 returns c =
     let s = c .before .before .before .before .before .before in
-    summary-kept (s .args .summary) (made s) (s .args .key .now) (s .pre .1 .0) (c .enum-told .given .1)
+    summary-kept (s .args .summary) (made s) (s .args .key .now) (s .pre .1 .1 .0) (c .enum-told .given .1)
 
 same-length : tie.Need-same-length
 same-length c = search needs
@@ -86,7 +89,7 @@ returns-3 c =
     let test = called .before .before in
     let s = start (test .before) in
     let h = unicode (test .before) (test .if1 .left) in
-    rw (prepared-unicode (s .args .collation) (mapping s) (s .args .text .now) (h .0)) (called .write-unicode .ensures)
+    rw (prepared-unicode (s .args .collation) (mapping s) (s .args .text .now) (h .0)) (called .write-unicode .ensures .left)
 
 pub write-key-spec : {M : Type 1} → statement M
 write-key-spec =

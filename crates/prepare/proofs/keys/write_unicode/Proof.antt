@@ -1,5 +1,6 @@
--- `prepare::keys::write_unicode` meets its contract. The loop's invariant: the characters up to `at` were written into the first
--- `end` octets of the buffer, and the key is these and the key of what follows (`Writing`). The measure is what is left of the text.
+-- `prepare::keys::write_unicode` meets its contract. The loop's invariant: the characters up to `at` came to `end` octets and `lookups`
+-- lookups (`Sizing`), and were written into the first `end` octets of the buffer (`Writing`); the key and the numbers are these and
+-- those of what follows. The measure is what is left of the text.
 -- Assumes nothing.
 use mathlib.Core.Path.{_≡_, sym, _∙_, ap}
 use mathlib.Core.List.{List, _++_}
@@ -15,15 +16,17 @@ use Rattle.table.specs.Table.{mappingOf}
 use Rattle.utf8.specs.Utf8.{Character, character, decode}
 use Rattle.utf8.specs.Promises.{readingTold}
 use Rattle.utf8.proofs.Decode.{decode-sound}
-use Rattle.prepare.proofs.Walks.{decode-drop-fits, Writing, writing-start, writing-more, writing-done, writing-stop, writing-length, writing-end, writing-room}
+use Rattle.decompose.proofs.Demand3.{accepted-all}
+use Rattle.prepare.proofs.Walks.{decode-drop-fits, Sizing, sizing-start, sizing-more, sizing-done, Writing, writing-start, writing-more, writing-done, writing-stop, writing-length, writing-end, writing-room}
 use Rattle.prepare.proofs.keys.write_unicode.Statement.{statement}
 use Rattle.prepare.proofs.keys.write_unicode.Tie as tie
 
 abbrev Inv-loop : tie.InvT-loop
-Inv-loop text entries pool key₀ at₀ end₀ key at end = Writing (mappingOf entries pool) text key₀ at end key
+Inv-loop text entries pool key₀ at₀ end₀ lookups₀ key at end lookups =
+    Sizing (mappingOf entries pool) text at end lookups × Writing (mappingOf entries pool) text key₀ at end key
 
 abbrev μ-loop : tie.MeasureT-loop
-μ-loop text entries pool key₀ at₀ end₀ key at end = length text - at
+μ-loop text entries pool key₀ at₀ end₀ lookups₀ key at end lookups = length text - at
 
 -- at the loop's head: the function's entry, the mapping of the table, and the text
 abbrev start : tie.At-loop Inv-loop μ-loop → tie.Start Inv-loop μ-loop
@@ -39,14 +42,14 @@ text-of l = start l .args .text .now
 same : (l : tie.At-loop Inv-loop μ-loop) → length (l .loop .key) ≡ length (start l .args .key .now)
 same l =
     let s = start l in
-    writing-length (mapping l) (text-of l) (s .args .key .now) (l .loop .at) (l .loop .end) (l .loop .key) (l .loop .inv)
-    (s .pre .1 .0) (s .pre .1 .1)
+    writing-length (mapping l) (text-of l) (s .args .key .now) (l .loop .at) (l .loop .end) (l .loop .key) (l .loop .inv .1)
+    (s .pre .1 .1 .0) (s .pre .1 .1 .1)
 
 within : (l : tie.At-loop Inv-loop μ-loop) → l .loop .end ≤ length (l .loop .key)
 within l =
     let s = start l in
-    writing-end (mapping l) (text-of l) (s .args .key .now) (l .loop .at) (l .loop .end) (l .loop .key) (l .loop .inv)
-    (s .pre .1 .0) (s .pre .1 .1)
+    writing-end (mapping l) (text-of l) (s .args .key .now) (l .loop .at) (l .loop .end) (l .loop .key) (l .loop .inv .1)
+    (s .pre .1 .1 .0) (s .pre .1 .1 .1)
 
 -- where a character was read: the loop's head, and the character
 abbrev head : tie.After-reading Inv-loop μ-loop → tie.At-loop Inv-loop μ-loop
@@ -63,7 +66,7 @@ fits : (c : tie.After-reading Inv-loop μ-loop)
     → (1 ≤ read c .width) × (head c .loop .at + read c .width ≤ length (text-of (head c)))
 fits c =
     let l = head c in
-    decode-drop-fits (text-of l) (l .loop .at) (read c) (l .loop .inv .passed) (decoded c)
+    decode-drop-fits (text-of l) (l .loop .at) (read c) (l .loop .inv .1 .passed) (decoded c)
 
 -- where it was written: one character more is written
 abbrev read-at : tie.After-write-expansion Inv-loop μ-loop → tie.After-reading Inv-loop μ-loop
@@ -81,9 +84,23 @@ more : (c : tie.After-write-expansion Inv-loop μ-loop)
 more c =
     let r = read-at c in
     let l = head r in
-    writing-more (mapping l) (text-of l) (start l .args .key .now) (l .loop .at) (l .loop .end) (l .loop .key) (l .loop .inv)
+    writing-more (mapping l) (text-of l) (start l .args .key .now) (l .loop .at) (l .loop .end) (l .loop .key) (l .loop .inv .1)
     (read r) (c .write-expansion .result) (last c) (decoded r)
     (rw (take-drop (l .loop .end) (l .loop .key)) at (c .write-expansion .ensures))
+
+-- and is sized
+sized : (c : tie.After-write-expansion Inv-loop μ-loop)
+    → let l = head (read-at c) in
+    Sizing (mapping l) (text-of l)
+    (l .loop .at + read (read-at c) .width)
+    (l .loop .end + c .write-expansion .result .octets)
+    (l .loop .lookups + c .write-expansion .result .asks)
+sized c =
+    let r = read-at c in
+    let l = head r in
+    let accepted = accepted-all (start l .args .entries .now) (start l .args .pool .now) (start l .pre .1 .0) in
+    sizing-more (mapping l) (text-of l) (l .loop .at) (l .loop .end) (l .loop .lookups) (l .loop .inv .0) accepted (read r)
+    (c .write-expansion .result) (decoded r) (c .write-expansion .ensures .counted)
 
 -- still within the buffer
 ends : (c : tie.After-write-expansion Inv-loop μ-loop)
@@ -97,8 +114,8 @@ ends c =
     let key = take (l .loop .end) (l .loop .key) ++ last c in
     omega (
       arith,
-      writing-end (mapping l) (text-of l) (s .args .key .now) at end key (more c) (s .pre .1 .0) (s .pre .1 .1),
-      writing-length (mapping l) (text-of l) (s .args .key .now) at end key (more c) (s .pre .1 .0) (s .pre .1 .1),
+      writing-end (mapping l) (text-of l) (s .args .key .now) at end key (more c) (s .pre .1 .1 .0) (s .pre .1 .1 .1),
+      writing-length (mapping l) (text-of l) (s .args .key .now) at end key (more c) (s .pre .1 .1 .0) (s .pre .1 .1 .1),
     )
 
 -- no character: never so
@@ -108,12 +125,12 @@ never c =
     let l = called .before .before in
     let e : decode (drop (l .loop .at) (text-of l)) ≡ none =
     sym (called .read-character .ensures) ∙ ap readingTold (c .enum-told .given .1) in
-    writing-stop (mapping l) (text-of l) (start l .args .key .now) (l .loop .at) (l .loop .end) (l .loop .key) (l .loop .inv)
+    writing-stop (mapping l) (text-of l) (start l .args .key .now) (l .loop .at) (l .loop .end) (l .loop .key) (l .loop .inv .1)
     (called .before .loop-test .taken) e
 
 -- before the first character
 loop-holds : tie.Need-loop-holds Inv-loop μ-loop
-loop-holds c = writing-start _ _ _ (c .before .before .before .before .pre .1 .0)
+loop-holds c = (sizing-start _ _, writing-start _ _ _ (c .before .before .before .before .pre .1 .1 .0))
 
 read-character-requires : tie.Need-read-character-requires Inv-loop μ-loop
 read-character-requires c κs = search needs
@@ -137,12 +154,12 @@ write-expansion-requires c κs =
     let r = c .before .before in
     let l = head r in
     let s = start l in (
-      s .pre .0,
+      s .pre .1 .0,
       (
         decode-sound (drop (l .loop .at) (text-of l)) (read r) (decoded r) .isScalar,
         rw (take-drop (l .loop .end) (l .loop .key))
-            (writing-room (mapping l) (text-of l) (s .args .key .now) (l .loop .at) (l .loop .end) (l .loop .key) (l .loop .inv)
-            (s .pre .1 .0) (s .pre .1 .1) (read r) (decoded r)),
+            (writing-room (mapping l) (text-of l) (s .args .key .now) (l .loop .at) (l .loop .end) (l .loop .key) (l .loop .inv .1)
+            (s .pre .1 .1 .0) (s .pre .1 .1 .1) (read r) (decoded r)),
       ),
     )
 
@@ -158,26 +175,35 @@ add-end c =
     let w = c .before .before .before in
     omega (arith, ends w, start (head (read-at w)) .good .1 .1 .1 .0)
 
+-- few lookups
+add-lookups : tie.Need-add-lookups Inv-loop μ-loop
+add-lookups c =
+    let w = c .before .before .before .before in
+    omega (arith, sized w .asked, sized w .passed, start (head (read-at w)) .pre .0)
+
 -- an octet or more fewer
 loop-less : tie.Need-loop-less Inv-loop μ-loop
-loop-less c = omega (arith, fits (read-at (c .before .before .before)))
+loop-less c = omega (arith, fits (read-at (c .before .before .before .before)))
 
 -- one character more
 loop-again : tie.Need-loop-again Inv-loop μ-loop
 loop-again c =
-    let w = c .before .before .before in
+    let w = c .before .before .before .before in
     let l = head (read-at w) in
-    rw (put-back (l .loop .end) (l .loop .key) (last w)) (more w)
+    (sized w, rw (put-back (l .loop .end) (l .loop .key) (last w)) (more w))
 
 enum-told : tie.Need-enum-told Inv-loop μ-loop
 enum-told c = search needs
 
+kept-requires : tie.Need-kept-requires Inv-loop μ-loop
+kept-requires c κs = search needs
+
 -- no character: never so
 same-length : tie.Need-same-length Inv-loop μ-loop
-same-length c = absurd (never c)
+same-length c = absurd (never (c .before))
 
 returns : tie.Need-returns Inv-loop μ-loop
-returns c = absurd (never c)
+returns c = absurd (never (c .before))
 
 -- the end of the text
 same-length-2 : tie.Need-same-length-2 Inv-loop μ-loop
@@ -187,8 +213,13 @@ returns-2 : tie.Need-returns-2 Inv-loop μ-loop
 returns-2 c =
     let l = c .before in
     let s = start l in
-    writing-done (mapping l) (text-of l) (s .args .key .now) (l .loop .at) (l .loop .end) (l .loop .key) (l .loop .inv)
-    (s .pre .1 .0) (c .loop-test .left)
+    record {
+      told = sym
+          (sizing-done (mapping l) (text-of l) (l .loop .at) (l .loop .end) (l .loop .lookups) (l .loop .inv .0) (c .loop-test .left));
+      left =
+          writing-done (mapping l) (text-of l) (s .args .key .now) (l .loop .at) (l .loop .end) (l .loop .key) (l .loop .inv .1)
+          (s .pre .1 .1 .0) (c .loop-test .left);
+    }
 
 pub write-unicode-spec : {M : Type 1} → statement M
 write-unicode-spec =
@@ -205,9 +236,11 @@ write-unicode-spec =
     write-expansion-requires
     add-at
     add-end
+    add-lookups
     loop-less
     loop-again
     enum-told
+    kept-requires
     same-length
     returns
     same-length-2
