@@ -18,7 +18,8 @@ use Rattle.decompose.specs.TableCheck.{tableRefusal}
 use Rattle.prepare.specs.Keys.{keyOf}
 use Rattle.prepare.specs.Calls.{lent, compareRefusal, roomChecks}
 use Rattle.prepare.proofs.Collations.{tableUnder-unicode}
-use Rattle.prepare.proofs.Joining.{front, front-passed, orElse-neither, callRefusal-two}
+use Rattle.terms.proofs.Checks.{orElse-neither}
+use Rattle.prepare.proofs.Joining.{front, front-passed, callRefusal-two}
 use Rattle.prepare.proofs.Validity.{valid-invalid-differ}
 use Rattle.compare.specs.Compare.{equalityTold, orderTold, orderNumber, equalityNumber, textOrder}
 use Rattle.compare.specs.Promises.{equalityBy, Equals, Orders}

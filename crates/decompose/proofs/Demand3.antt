@@ -19,11 +19,12 @@ use Rattle.terms.specs.CodePoints.{scalar}
 use Rattle.terms.specs.Lists.{all, orElse, lowest}
 use Rattle.terms.specs.Refusals.{levelsMost, fullMost}
 use Rattle.terms.specs.declared.Refusal.{Refusal}
+use Rattle.terms.proofs.Checks.{orElse-neither}
 use Rattle.terms.proofs.Lowest.{lowest-none, lowest-nowhere}
 use Rattle.terms.proofs.Tests.{both, join, none-some}
 use Rattle.table.specs.Mapping.{Mapping}
 use Rattle.table.specs.Table.{entryCount, codeAt, refusedAt, formRefusal, entryOf, mappingOf}
-use Rattle.table.proofs.Form.{entryOf-some, formed-title-scalar, formed-parts-scalar}
+use Rattle.table.proofs.Form.{refusedAt-none, entryOf-some, formed-title-scalar, formed-parts-scalar}
 use Rattle.utf8.specs.Utf8.{Character}
 use Rattle.decompose.specs.Levels.{Level, within, full, asks}
 use Rattle.decompose.specs.Steps.{expansion, stepsKey, stepsLookups}
@@ -64,13 +65,7 @@ well→unfolds m c w =
 
 -- neither of two checks applies
 neither : (a b : Option Refusal) → orElse a (orElse b none) ≡ none → (a ≡ none) × (b ≡ none)
-neither none none e = (refl, refl)
-neither none (some r) e = absurd (none-some r (sym e))
-neither (some r) b e = absurd (none-some r (sym e))
-
-refusedAt-none : (n : ℕ) (o : Option ℕ) → refusedAt n o ≡ none → o ≡ none
-refusedAt-none n none e = refl
-refusedAt-none n (some i) e = cc
+neither a b e = let h = orElse-neither a (orElse b none) e in (h .0, orElse-neither b none (h .1) .0)
 
 -- a table that is accepted has the form
 pub accepted-form : (es pool : List ℕ) → tableRefusal es pool ≡ none → formRefusal es pool ≡ none

@@ -1,16 +1,16 @@
 -- How the refusal of a call comes apart: 1 to 7, the front, which is checked before a key is looked at, and then 8. So a call that
 -- passed the front answers what is left of it, and a call that did not answers the front's refusal.
 -- Assumes nothing.
-use mathlib.Core.Path.{_≡_, refl, _∙_}
+use mathlib.Core.Path.{_≡_, _∙_}
 use Prim.Native.Nat.{ℕ, zero-le, _≤_}
-use mathlib.Core.Bool.{Bool, true, false}
 use mathlib.Core.Option.{Option, none, some}
 use mathlib.Core.List.{List, [], _∷_}
 use lib.ListN.{length}
 use borrow.Author.Tests.{ltb-false}
-use Rattle.terms.specs.Lists.{orElse, when}
-use Rattle.terms.specs.Refusals.{textMost, first, refused, given, answer}
+use Rattle.terms.specs.Lists.{orElse}
+use Rattle.terms.specs.Refusals.{textMost, first}
 use Rattle.terms.specs.declared.Refusal.{Refusal}
+use Rattle.terms.proofs.Checks.{orElse-none, orElse-assoc, orElse-neither, when-none}
 use Rattle.table.specs.Table.{mappingOf}
 use Rattle.prepare.specs.Calls.{Lent, lent, collationCheck, lengthCheck, lengthChecks, tableUnder, roomChecks, callRefusal}
 use Rattle.prepare.specs.Promises.{textsRefusal, Prepares, PreparesReady, PreparesTwo, PreparesTwoReady}
@@ -18,49 +18,6 @@ use Rattle.prepare.specs.declared.Preparation.{Preparation}
 use Rattle.prepare.specs.declared.Preparation.the-variants.{Refused}
 use Rattle.prepare.specs.declared.PreparedPair.{PreparedPair}
 use Rattle.prepare.specs.declared.PreparedPair.the-variants.{Refused as Neither}
-
--- ---- two checks, one after the other
-
-module _ {A : Type 0} where
-  -- nothing follows
-  pub orElse-none : (a : Option A) → orElse a none ≡ a
-  orElse-none none = refl
-  orElse-none (some x) = refl
-
-  -- grouped another way
-  pub orElse-assoc : (a b c : Option A) → orElse (orElse a b) c ≡ orElse a (orElse b c)
-  orElse-assoc none b c = refl
-  orElse-assoc (some x) b c = refl
-
-  -- the first is there
-  pub orElse-first : (a b : Option A) (x : A) → a ≡ some x → orElse a b ≡ some x
-  orElse-first a b x e = rw e
-
-  -- the first is not there
-  pub orElse-second : (a b : Option A) → a ≡ none → orElse a b ≡ b
-  orElse-second a b e = rw e
-
-  -- neither is there
-  pub orElse-neither : (a b : Option A) → orElse a b ≡ none → (a ≡ none) × (b ≡ none)
-  orElse-neither none b e = (refl, e)
-  orElse-neither (some x) b e = (e, cc)
-
-  -- a test that did not apply
-  pub when-none : (b : Bool) (a : A) → when b a ≡ none → b ≡ false
-  when-none true a e = cc
-  when-none false a e = refl
-
--- ---- answers
-
--- values are given where nothing refuses
-pub answer-given : (o : Option Refusal) (vs ws : List ℕ) → given ws ≡ answer o vs → o ≡ none
-answer-given none vs ws e = refl
-answer-given (some r) vs ws e = cc
-
--- a refusal is given where it is the call's
-pub answer-refused : (o : Option Refusal) (vs : List ℕ) (r : Refusal) → refused r ≡ answer o vs → o ≡ some r
-answer-refused none vs r e = cc
-answer-refused (some s) vs r e = cc
 
 -- ---- the front of a call, 1 to 7
 

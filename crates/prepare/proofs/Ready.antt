@@ -28,7 +28,7 @@ use Rattle.prepare.specs.declared.Summary.{Summary}
 use Rattle.prepare.specs.declared.Preparation.the-variants.{Prepared, Refused}
 use Rattle.prepare.specs.declared.PreparedPair.the-variants.{Both, Refused as Neither}
 use Rattle.prepare.proofs.Collations.{prepared-unicode, tableUnder-unicode}
-use Rattle.prepare.proofs.Joining.{orElse-none, when-none}
+use Rattle.terms.proofs.Checks.{orElse-none, when-none}
 
 -- ---- the room that a summary asks for
 

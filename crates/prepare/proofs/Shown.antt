@@ -27,7 +27,7 @@ use Rattle.prepare.specs.declared.Preparation.{Preparation}
 use Rattle.prepare.specs.declared.Preparation.the-variants.{Prepared, Refused}
 use Rattle.prepare.specs.declared.PreparedPair.{PreparedPair}
 use Rattle.prepare.specs.declared.PreparedPair.the-variants.{Both, Refused as Neither}
-use Rattle.prepare.proofs.Joining.{answer-given, answer-refused}
+use Rattle.terms.proofs.Checks.{answer-given, answer-refused}
 
 -- ---- the front of a list
 

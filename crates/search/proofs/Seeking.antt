@@ -29,7 +29,8 @@ use Rattle.prepare.specs.declared.PreparedPair.{PreparedPair}
 use Rattle.prepare.specs.declared.PreparedPair.the-variants.{Both, Refused as Neither}
 use Rattle.prepare.proofs.Answers.{truth-inj}
 use Rattle.prepare.proofs.Collations.{prepared-unicode, prepared-ascii, prepared-octet}
-use Rattle.prepare.proofs.Joining.{front, front-passed, orElse-neither, callRefusal-two}
+use Rattle.terms.proofs.Checks.{orElse-neither}
+use Rattle.prepare.proofs.Joining.{front, front-passed, callRefusal-two}
 use Rattle.prepare.proofs.Shown.{ShownBoth, shown-both, shown-neither}
 use Rattle.occurrence.specs.Occurrence.{occurrence}
 use Rattle.occurrence.proofs.Laws.{occurrence-within}

@@ -15,7 +15,7 @@ use borrow.Author.Tests.{leb-false, ltb-false, eqb-true, eq-eqb, ne-eqb, not-fal
 use Rattle.terms.specs.CodePoints.{scalar}
 use Rattle.terms.specs.Lists.{all, lowest, orElse, when}
 use Rattle.terms.specs.Refusals.{entriesMost, check, refusal}
-use Rattle.terms.specs.declared.Refusal.{Refusal}
+use Rattle.terms.proofs.Checks.{or-left, or-right, orElse-neither, when-none}
 use Rattle.terms.proofs.Lists.{all-cons}
 use Rattle.terms.proofs.Lowest.{lowest-is, lowest-some, lowest-none, lowest-nowhere}
 use Rattle.table.specs.Table.{entryCount, codeAt, titleAt, startAt, countAt, countsBelow, faultySize, notAbove, faultyCode, faultyEntry, poolLeft, faultyNumber, refusedAt, entryFault, formRefusal, entryOf, titleIn, titleOf, partsIn, partsOf}
@@ -23,28 +23,8 @@ use Rattle.table.specs.Promises.{Ascending}
 
 -- ---- none of the checks applies
 
-or-left : (a b : Bool) → a || b ≡ false → a ≡ false
-or-left false b e = refl
-or-left true b e = e
-
-or-right : (a b : Bool) → a || b ≡ false → b ≡ false
-or-right false b e = e
-or-right true b e = cc
-
-module _ {A : Type 0} where
-  orElse-left : (a b : Option A) → orElse a b ≡ none → a ≡ none
-  orElse-left none b e = refl
-  orElse-left (some x) b e = e
-
-  orElse-right : (a b : Option A) → orElse a b ≡ none → b ≡ none
-  orElse-right none b e = e
-  orElse-right (some x) b e = cc
-
-  when-none : (t : Bool) (x : A) → when t x ≡ none → t ≡ false
-  when-none false x e = refl
-  when-none true x e = cc
-
-refusedAt-none : (n : ℕ) (o : Option ℕ) → refusedAt n o ≡ none → o ≡ none
+-- no place is refused
+pub refusedAt-none : (n : ℕ) (o : Option ℕ) → refusedAt n o ≡ none → o ≡ none
 refusedAt-none n none e = refl
 refusedAt-none n (some i) e = cc
 
@@ -60,25 +40,34 @@ pub record Formed (es pool : List ℕ) : Type 0 where
 pub formed : (es pool : List ℕ) → formRefusal es pool ≡ none → Formed es pool
 unfolding formRefusal
 formed es pool e =
-    let c3 : Option Refusal = check (faultySize es pool) 3 0 0 in
-    let o4 = lowest (faultyCode es) (entryCount es) in
     let o5 = entryFault es pool in
     let o6 = lowest (faultyNumber pool) (length pool) in
-    let l5 = lowest (faultyEntry es pool) (entryCount es) in
-    let w5 = when (poolLeft es pool) (entryCount es) in
-    let e4 : orElse (refusedAt 4 o4) (orElse (refusedAt 5 o5) (orElse (refusedAt 6 o6) none)) ≡ none = orElse-right c3 _ e in
-    let e5 : orElse (refusedAt 5 o5) (orElse (refusedAt 6 o6) none) ≡ none = orElse-right (refusedAt 4 o4) _ e4 in
-    let e6 : orElse (refusedAt 6 o6) none ≡ none = orElse-right (refusedAt 5 o5) _ e5 in
-    let n4 : o4 ≡ none = refusedAt-none 4 o4 (orElse-left (refusedAt 4 o4) _ e4) in
-    let n5 : o5 ≡ none = refusedAt-none 5 o5 (orElse-left (refusedAt 5 o5) _ e5) in
-    let n6 : o6 ≡ none = refusedAt-none 6 o6 (orElse-left (refusedAt 6 o6) none e6) in
+    let h3 = orElse-neither (check (faultySize es pool) 3 0 0) _ e in
+    let h4 = orElse-neither (refusedAt 4 (lowest (faultyCode es) (entryCount es))) (orElse (refusedAt 5 o5) (orElse (refusedAt 6 o6) none))
+    (h3 .1) in
+    let h5 = orElse-neither (refusedAt 5 o5) (orElse (refusedAt 6 o6) none) (h4 .1) in
+    let h6 = orElse-neither (refusedAt 6 o6) none (h5 .1) in
+    let fault = orElse-neither (lowest (faultyEntry es pool) (entryCount es)) (when (poolLeft es pool) (entryCount es))
+    (refusedAt-none 5 o5 (h5 .0)) in
     record {
-      size = when-none (faultySize es pool) (refusal 3 0 0) (orElse-left c3 _ e);
-      codes = lowest-none (faultyCode es) (entryCount es) n4;
-      entries = lowest-none (faultyEntry es pool) (entryCount es) (orElse-left l5 w5 n5);
-      whole = when-none (poolLeft es pool) (entryCount es) (orElse-right l5 w5 n5);
-      numbers = lowest-none (faultyNumber pool) (length pool) n6;
+      size = when-none (faultySize es pool) (refusal 3 0 0) (h3 .0);
+      codes = lowest-none (faultyCode es) (entryCount es) (refusedAt-none 4 _ (h4 .0));
+      entries = lowest-none (faultyEntry es pool) (entryCount es) (fault .0);
+      whole = when-none (poolLeft es pool) (entryCount es) (fault .1);
+      numbers = lowest-none (faultyNumber pool) (length pool) (refusedAt-none 6 o6 (h6 .0));
     }
+
+-- and one that passes each has the form
+pub form-formed : (es pool : List ℕ) → Formed es pool → formRefusal es pool ≡ none
+unfolding formRefusal
+form-formed es pool f =
+    rw (
+      f .size,
+      lowest-nowhere (faultyCode es) (entryCount es) (f .codes),
+      lowest-nowhere (faultyEntry es pool) (entryCount es) (f .entries),
+      f .whole,
+      lowest-nowhere (faultyNumber pool) (length pool) (f .numbers),
+    )
 
 -- ---- what a check that was passed says
 

@@ -1,4 +1,5 @@
 pub mod Begins
+pub mod Checks
 pub mod Lists
 pub mod Lowest
 pub mod Parts

@@ -10,6 +10,7 @@ use lib.ListN.{length}
 use Rattle.terms.specs.Lists.{there, orElse}
 use Rattle.terms.specs.Refusals.{lineMost, refusal, given}
 use Rattle.terms.specs.declared.Refusal.{Refusal}
+use Rattle.terms.proofs.Checks.{orElse-assoc}
 use Rattle.ucd.specs.Fields.{fields, field, codePoint, decomposition, titlecase}
 use Rattle.ucd.specs.Builder.{Mapped, Built, said, codeSaid, maps, impossible, lineCheck}
 use Rattle.ucd.specs.Builder.{lineRefusal, appended, passed, builtBy, addLine, stateNumbers, Added}
@@ -18,10 +19,6 @@ use Rattle.ucd.specs.declared.LineState.{LineState}
 use Rattle.ucd.specs.declared.Line.the-variants.{Taken, Refused}
 
 -- ---- one after another
-
-orElse-assoc : (a b c : Option Refusal) → orElse (orElse a b) c ≡ orElse a (orElse b c)
-orElse-assoc none b c = refl
-orElse-assoc (some r) b c = refl
 
 -- the checks 20 to 24 in one
 regroup : (a b c d e f rest : Option Refusal)

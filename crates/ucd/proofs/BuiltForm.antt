@@ -14,9 +14,8 @@ use Rattle.terms.specs.CodePoints.{scalar}
 use Rattle.terms.specs.Refusals.{entriesMost, poolMost, partsMost}
 use Rattle.terms.specs.declared.Refusal.{Refusal}
 use Rattle.terms.proofs.Lists.{all-at}
-use Rattle.terms.proofs.Lowest.{lowest-nowhere}
 use Rattle.table.specs.Table.{entryCount, startAt, countAt, countsBelow, faultySize, faultyCode, faultyEntry, poolLeft, faultyNumber, formRefusal}
-use Rattle.table.proofs.Form.{Formed}
+use Rattle.table.proofs.Form.{form-formed}
 use Rattle.ucd.specs.Builder.{Mapped, Built, said, maps, entryFor, appended, addLine, addLines}
 use Rattle.ucd.specs.Built.{startOf, cutEntries, cutPool, refusalOf}
 use Rattle.ucd.specs.Promises.{Room}
@@ -35,18 +34,6 @@ countsBelow-mono es i (suc j) h = go (ℕ-discrete i (suc j)) (countsBelow-mono 
     go : Dec (i ≡ suc j) → (i ≤ j → countsBelow es i ≤ countsBelow es j) → countsBelow es i ≤ countsBelow es j + countAt es j
     go (yes e) below = rw e (omega arith)
     go (no ne) below = omega (arith, below (omega arith))
-
--- none of 3 to 6 applies: the table has the form
-pub form-formed : (es pool : List ℕ) → Formed es pool → formRefusal es pool ≡ none
-unfolding formRefusal
-form-formed es pool f =
-    rw (
-      f .size,
-      lowest-nowhere (faultyCode es) (entryCount es) (f .codes),
-      lowest-nowhere (faultyEntry es pool) (entryCount es) (f .entries),
-      f .whole,
-      lowest-nowhere (faultyNumber pool) (length pool) (f .numbers),
-    )
 
 module _ (es pool : List ℕ) (st : LineState) (g : Grown es pool st) where
   many : entryCount es ≡ st .«entries_used»

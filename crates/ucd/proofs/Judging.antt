@@ -14,6 +14,7 @@ use Rattle.terms.specs.CodePoints.{scalar}
 use Rattle.terms.specs.Lists.{all, empty, orElse}
 use Rattle.terms.specs.Refusals.{entriesMost, poolMost, partsMost}
 use Rattle.terms.specs.declared.Refusal.{Refusal}
+use Rattle.terms.proofs.Checks.{or-left, or-right}
 use Rattle.ucd.specs.Builder.{Mapped, said, maps, lineCheck}
 use Rattle.ucd.specs.Promises.{mapped, mapsBy, unscalar, impossibleBy, crowdedBy, lineFault, saidFault, refusalBy, Room, Read}
 use Rattle.ucd.specs.declared.LineState.{LineState}
@@ -135,14 +136,6 @@ module _ (st : LineState) (line out : List ℕ) (entries pool : ℕ) where
       record { refusal = rw (i, ← (l .refusal)) (checked .refusal); says = checked .says }
 
 -- ---- what is known then
-
-or-left : (a b : Bool) → a || b ≡ false → a ≡ false
-or-left true b e = e
-or-left false b e = refl
-
-or-right : (a b : Bool) → a || b ≡ false → b ≡ false
-or-right true b e = cc
-or-right false b e = e
 
 -- a possible state is within the limits
 pub possible : (st : LineState) (entries pool : ℕ)

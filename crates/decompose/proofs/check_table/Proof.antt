@@ -8,16 +8,12 @@ use borrow.Author.Needs.{needs}
 use Rattle.terms.specs.Lists.{orElse, lowest}
 use Rattle.terms.specs.Refusals.{refused, given, answer}
 use Rattle.terms.specs.declared.Refusal.{Refusal}
+use Rattle.terms.proofs.Checks.{answer-given}
 use Rattle.table.specs.Table.{entryCount, refusedAt, formRefusal}
 use Rattle.table.specs.Promises.{checkTold}
 use Rattle.decompose.specs.TableCheck.{faultyLevel, tableRefusal, tableAnswer}
 use Rattle.decompose.proofs.check_table.Statement.{statement}
 use Rattle.decompose.proofs.check_table.Tie as tie
-
--- the answer says whether there is a refusal
-answer-given : (o : Option Refusal) → given [] ≡ answer o [] → o ≡ none
-answer-given none e = refl
-answer-given (some r) e = cc
 
 -- a table of the form: 7 decides
 answer-levels : (es pool : List ℕ) → formRefusal es pool ≡ none
@@ -45,7 +41,7 @@ abbrev start : tie.After-enum-told → tie.Start
 start c = c .before .before .before .before .before
 
 form : (c : tie.After-enum-told) → formRefusal (start c .args .entries .now) (start c .args .pool .now) ≡ none
-form c = answer-given _ (sym (ap checkTold (c .enum-told .given .1)) ∙ c .before .before .check-form .ensures)
+form c = answer-given _ _ _ (sym (ap checkTold (c .enum-told .given .1)) ∙ c .before .before .check-form .ensures)
 
 check-form-requires : tie.Need-check-form-requires
 check-form-requires c κs = search needs

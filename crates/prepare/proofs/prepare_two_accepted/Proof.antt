@@ -7,7 +7,8 @@ use lib.ListN.{length}
 use borrow.Author.Needs.{needs}
 use Rattle.prepare.specs.Calls.{tableUnder}
 use Rattle.prepare.specs.Promises.{readinessTold, textsRefusal}
-use Rattle.prepare.proofs.Joining.{orElse-first, orElse-second, front, front-passed, preparesTwo-ready, preparesTwo-refused}
+use Rattle.terms.proofs.Checks.{orElse-first, orElse-second}
+use Rattle.prepare.proofs.Joining.{front, front-passed, preparesTwo-ready, preparesTwo-refused}
 use Rattle.prepare.proofs.prepare_two_accepted.Statement.{statement}
 use Rattle.prepare.proofs.prepare_two_accepted.Tie as tie
 

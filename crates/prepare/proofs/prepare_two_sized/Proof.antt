@@ -9,7 +9,7 @@ use Rattle.table.specs.Mapping.{Mapping}
 use Rattle.table.specs.Table.{mappingOf}
 use Rattle.prepare.specs.Keys.{prepared}
 use Rattle.prepare.specs.Promises.{readinessTold, roomNeeded}
-use Rattle.prepare.proofs.Joining.{orElse-first, orElse-second}
+use Rattle.terms.proofs.Checks.{orElse-first, orElse-second}
 use Rattle.prepare.proofs.Ready.{room-enough, preparesTwoReady-written, preparesTwoReady-refused}
 use Rattle.prepare.proofs.prepare_two_sized.Statement.{statement}
 use Rattle.prepare.proofs.prepare_two_sized.Tie as tie

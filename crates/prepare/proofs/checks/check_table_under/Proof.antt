@@ -11,7 +11,7 @@ use Rattle.terms.specs.declared.Refusal.{Refusal}
 use Rattle.table.specs.Promises.{checkTold}
 use Rattle.decompose.specs.TableCheck.{tableAnswer}
 use Rattle.prepare.specs.Calls.{tableUnder}
-use Rattle.prepare.proofs.Joining.{answer-given, answer-refused}
+use Rattle.terms.proofs.Checks.{answer-given, answer-refused}
 use Rattle.prepare.proofs.checks.check_table_under.Statement.{statement}
 use Rattle.prepare.proofs.checks.check_table_under.Tie as tie
 
