@@ -1,0 +1,34 @@
+-- `mundeziwa::pairs::mz_equal_accepted` meets its contract: the row of what `equal_accepted` answers, and both keys.
+-- Assumes nothing.
+use mathlib.Core.Path.{ap, _∙_}
+use borrow.Author.Needs.{needs}
+use Rattle.terms.specs.Refusals.{row}
+use Rattle.mundeziwa.proofs.pairs.mz_equal_accepted.Statement.{statement}
+use Rattle.mundeziwa.proofs.pairs.mz_equal_accepted.Tie as tie
+
+equal-accepted-requires : tie.Need-equal-accepted-requires
+equal-accepted-requires c κs = search needs
+
+equality-row-requires : tie.Need-equality-row-requires
+equality-row-requires c κs = search needs
+
+same-length : tie.Need-same-length
+same-length c = search needs
+
+same-length-2 : tie.Need-same-length-2
+same-length-2 c = search needs
+
+-- the row of the answer
+returns : tie.Need-returns
+returns c =
+    let call = c .before .before .before .before .before .equal-accepted .ensures in
+    record {
+      answered = c .equality-row .ensures ∙ ap (row 1) (call .answered);
+      firstLeft = call .firstLeft;
+      secondLeft = call .secondLeft;
+    }
+
+pub mz-equal-accepted-spec : {M : Type 1} → statement M
+mz-equal-accepted-spec =
+    tie.close
+    (tie.spec equal-accepted-requires equality-row-requires same-length same-length-2 returns)

@@ -1,0 +1,130 @@
+// The library's answers as rows of numbers: refusal number (0 if not refused), place, detail, and then the values of the call.
+use compare::Equality;
+use compare::Ordered;
+use prepare::KeyPlace;
+use prepare::Preparation;
+use search::Sought;
+use table::TableCheck;
+use ucd::Line;
+ghost use mathlib.Core.Path.{_≡_};
+ghost use Rattle.terms.specs.Refusals.{row};
+ghost use Rattle.table.specs.Promises.{checkTold};
+ghost use Rattle.prepare.specs.Calls.{truth, placeTold, preparationTold};
+ghost use Rattle.compare.specs.Compare.{equalityTold, orderTold};
+ghost use Rattle.search.specs.Substring.{substringTold};
+ghost use Rattle.ucd.specs.Builder.{lineTold, stateTold};
+ghost use Rattle.mundeziwa.specs.Promises.{lineRow};
+
+// The row of a table check.
+pub fn check_row(check: TableCheck) -> [u64; 3]
+    ensures { λ r. ⌜ r ≡ row 0 (checkTold check) ⌝ }
+{
+    match check {
+        TableCheck::Accepted => [0, 0, 0],
+        TableCheck::Refused(r) => [r.number as u64, r.place as u64, r.detail],
+    }
+}
+
+// The row of a preparation: valid, lookups, length of the key, where it stands.
+pub fn preparation_row(preparation: Preparation) -> [u64; 7]
+    ensures { λ r. ⌜ r ≡ row 4 (preparationTold preparation) ⌝ }
+{
+    match preparation {
+        Preparation::Prepared(s) => {
+            let valid = truth_number(s.valid);
+            let place = s.place;
+            let stands = place_number(place);
+            [0, 0, 0, valid, s.lookups, s.key_length as u64, stands]
+        }
+        Preparation::Refused(r) => [r.number as u64, r.place as u64, r.detail, 0, 0, 0, 0],
+    }
+}
+
+// The row of an equality: 1 match, 2 no-match.
+pub fn equality_row(equality: Equality) -> [u64; 4]
+    ensures { λ r. ⌜ r ≡ row 1 (equalityTold equality) ⌝ }
+{
+    match equality {
+        Equality::Match => [0, 0, 0, 1],
+        Equality::NoMatch => [0, 0, 0, 2],
+        Equality::Refused(r) => [r.number as u64, r.place as u64, r.detail, 0],
+    }
+}
+
+// The row of an order: 1 less, 2 equal, 3 greater.
+pub fn order_row(ordered: Ordered) -> [u64; 4]
+    ensures { λ r. ⌜ r ≡ row 1 (orderTold ordered) ⌝ }
+{
+    match ordered {
+        Ordered::Less => [0, 0, 0, 1],
+        Ordered::Equal => [0, 0, 0, 2],
+        Ordered::Greater => [0, 0, 0, 3],
+        Ordered::Refused(r) => [r.number as u64, r.place as u64, r.detail, 0],
+    }
+}
+
+// The row of a substring answer: 1 match, 2 no-match; start and end in the key, start and end in the text.
+pub fn substring_row(sought: Sought) -> [u64; 8]
+    ensures { λ r. ⌜ r ≡ row 5 (substringTold sought) ⌝ }
+{
+    match sought {
+        Sought::Match {
+            key_start,
+            key_end,
+            text_start,
+            text_end,
+        } => [
+            0,
+            0,
+            0,
+            1,
+            key_start.0 as u64,
+            key_end.0 as u64,
+            text_start.0 as u64,
+            text_end.0 as u64,
+        ],
+        Sought::NoMatch => [0, 0, 0, 2, 0, 0, 0, 0],
+        Sought::Refused(r) => [r.number as u64, r.place as u64, r.detail, 0, 0, 0, 0, 0],
+    }
+}
+
+// The row of a line: the state that comes back, on a refusal too.
+pub fn line_row(line: Line) -> [u64; 6]
+    ensures { λ r. ⌜ r ≡ lineRow (lineTold line) (stateTold line) ⌝ }
+{
+    match line {
+        Line::Taken(after) => [
+            0,
+            0,
+            0,
+            after.entries_used as u64,
+            after.pool_used as u64,
+            after.next as u64,
+        ],
+        Line::Refused(r, kept) => [
+            r.number as u64,
+            r.place as u64,
+            r.detail,
+            kept.entries_used as u64,
+            kept.pool_used as u64,
+            kept.next as u64,
+        ],
+    }
+}
+
+// A truth as a number: 1 and 0.
+fn truth_number(b: bool) -> u64
+    ensures { λ r. ⌜ r ≡ truth b ⌝ }
+{
+    if b { 1 } else { 0 }
+}
+
+// Where a key stands, as a number: 0 it is the text, 1 the start of the buffer.
+fn place_number(place: KeyPlace) -> u64
+    ensures { λ r. ⌜ r ≡ placeTold place ⌝ }
+{
+    match place {
+        KeyPlace::Text => 0,
+        KeyPlace::Buffer => 1,
+    }
+}
