@@ -1,0 +1,55 @@
+//! Names compared under the collations of RFC 4790 and RFC 5051: `i;octet`, `i;ascii-casemap` and `i;unicode-casemap`.
+//!
+//! The work is done by a library whose every function is proved to meet its contract; this crate checks a mapping table once,
+//! keeps it borrowed, and calls that library. Nothing here panics on any input, and nothing is `unsafe` to call.
+//!
+//! ```
+//! use mundeziwa::{Collation, TableBuilder};
+//! use std::cmp::Ordering;
+//!
+//! // Lines of UnicodeData.txt; a program reads the whole file with `TableBuilder::read`.
+//! let mut builder = TableBuilder::new();
+//! builder.line("0065;LATIN SMALL LETTER E;Ll;0;L;;;;;N;;;0045;;0045")?;
+//! builder.line("00C9;LATIN CAPITAL LETTER E WITH ACUTE;Lu;0;L;0045 0301;;;;N;;;;00E9;")?;
+//! builder.line("00E9;LATIN SMALL LETTER E WITH ACUTE;Ll;0;L;0065 0301;;;;N;;;00C9;;00C9")?;
+//! let table = builder.table()?;
+//!
+//! let unicode = Collation::UnicodeCasemap;
+//! assert!(table.equal(unicode, "é", "É")?);
+//! assert!(table.equal(unicode, "é", "e\u{301}")?);
+//! assert_eq!(table.order(unicode, "E", "é")?, Ordering::Less);
+//!
+//! // A name with a broken octet stays broken, and compares as octets.
+//! assert!(!table.equal(unicode, b"\xC3".as_slice(), "é")?);
+//!
+//! // A hit never cuts a letter in half.
+//! let hit = table.find(unicode, "\u{301}", "Eé")?.expect("the accent is there");
+//! assert_eq!(hit.text, 1..3);
+//! # Ok::<(), mundeziwa::Refusal>(())
+//! ```
+
+mod builder;
+mod ffi;
+mod refusal;
+mod table;
+
+pub use builder::{ReadError, TableBuilder};
+pub use refusal::Refusal;
+pub use table::{Hit, Prepared, Table};
+
+/// A collation, by its number in the scope paper.
+#[derive(Clone, Copy, Debug, PartialEq, Eq, Hash)]
+pub enum Collation {
+    /// `i;octet`: a text is its own key.
+    Octet = 1,
+    /// `i;ascii-casemap`: the letters a to z are raised.
+    AsciiCasemap = 2,
+    /// `i;unicode-casemap`: titlecase and full decomposition over the table; a text that is not valid UTF-8 is its own key.
+    UnicodeCasemap = 3,
+}
+
+/// The longest text that is taken, in octets.
+pub const TEXT_MOST: usize = 4096;
+
+/// The most octets of a key for each octet of its text.
+pub const KEY_PER_OCTET_MOST: usize = 128;

@@ -1,0 +1,97 @@
+/* The C interface as a C program sees it: every call of include/mundeziwa.h, over table T of document 01. Exits 1 at the first answer
+ * that is not the paper's. */
+#include "mundeziwa.h"
+#include <stdio.h>
+#include <stdlib.h>
+#include <string.h>
+
+#define COUNT(array) (sizeof(array) / sizeof *(array))
+
+/* Table T: code point, titlecase, start, count. */
+static const uint32_t entries[] = {
+    0x0061, 0x0041, 0,  0, 0x0066, 0x0046, 0,  0, 0x0069, 0x0049, 0,  0, 0x007A, 0x005A, 0, 0, 0x00C9, 0x00C9, 0,  2, 0x00E9, 0x00C9, 2, 2,
+    0x017D, 0x017D, 4,  2, 0x017E, 0x017D, 6,  2, 0x01C4, 0x01C5, 8,  2, 0x01C5, 0x01C5, 10, 2, 0x01C6, 0x01C5, 12, 2, 0xFB01, 0xFB01, 14, 2,
+};
+static const uint32_t pool[] = {0x45, 0x301, 0x65, 0x301, 0x5A, 0x30C, 0x7A, 0x30C, 0x44, 0x17D, 0x44, 0x17E, 0x64, 0x17E, 0x66, 0x69};
+
+#define TABLE entries, COUNT(entries), pool, COUNT(pool)
+#define TEXT(octets) (const uint8_t *)(octets), sizeof(octets) - 1
+
+static void expect(const char *call, const uint64_t *answer, const uint64_t *expected, size_t n) {
+    if (memcmp(answer, expected, n * sizeof *answer) == 0)
+        return;
+    fprintf(stderr, "%s answered", call);
+    for (size_t i = 0; i < n; i++)
+        fprintf(stderr, " %llu (%llu)", (unsigned long long)answer[i], (unsigned long long)expected[i]);
+    fprintf(stderr, ", in brackets what document 01 says\n");
+    exit(1);
+}
+
+#define EXPECT(call, answer, ...) expect(call, answer, (const uint64_t[]){__VA_ARGS__}, COUNT(answer))
+
+static void expect_octets(const char *what, const uint8_t *octets, const char *expected, size_t n) {
+    if (memcmp(octets, expected, n) != 0) {
+        fprintf(stderr, "%s: other octets than document 01's\n", what);
+        exit(1);
+    }
+}
+
+static void check_tables(void) {
+    static const uint32_t itself[] = {0x41, 0x41, 0, 1}, part[] = {0x41};
+    uint64_t answer[3];
+    mz_check_table(TABLE, answer);
+    EXPECT("mz_check_table of T", answer, 0, 0, 0);
+    mz_check_table(itself, COUNT(itself), part, COUNT(part), answer);
+    EXPECT("mz_check_table of a letter that decomposes into itself", answer, 7, 0, 0);
+}
+
+static void prepare_texts(void) {
+    uint8_t key[4] = {1, 2, 3, 4};
+    uint64_t answer[7];
+    mz_prepare(3, TEXT("\xC3\xA9"), TABLE, key, sizeof key, answer);
+    EXPECT("mz_prepare", answer, 0, 0, 0, 1, 4, 3, 1);
+    expect_octets("mz_prepare's key", key, "\x45\xCC\x81\x04", 4);
+    mz_prepare_accepted(3, TEXT("\xC3"), TABLE, key, sizeof key, answer);
+    EXPECT("mz_prepare_accepted of a broken text", answer, 0, 0, 0, 0, 0, 1, 0);
+    expect_octets("the buffer after a broken text", key, "\x45\xCC\x81\x04", 4);
+    mz_prepare(3, TEXT("\xC3\xA9"), TABLE, key, 2, answer);
+    EXPECT("mz_prepare with a short buffer", answer, 8, 1, 3, 0, 0, 0, 0);
+}
+
+static void compare_texts(void) {
+    uint8_t first_key[8], second_key[8];
+    uint64_t answer[4], place[8];
+#define KEYS first_key, sizeof first_key, second_key, sizeof second_key
+    mz_equal(3, TEXT("\xC3\xA9"), TEXT("\xC3\x89"), TABLE, KEYS, answer);
+    EXPECT("mz_equal", answer, 0, 0, 0, 1);
+    mz_equal_accepted(3, TEXT("\xC3\xA9"), TEXT("e"), TABLE, KEYS, answer);
+    EXPECT("mz_equal_accepted", answer, 0, 0, 0, 2);
+    mz_order(3, TEXT("\x45"), TEXT("\xC3\xA9"), TABLE, KEYS, answer);
+    EXPECT("mz_order", answer, 0, 0, 0, 1);
+    mz_order_accepted(3, TEXT("\xC3"), TEXT("\xC3\xA9"), TABLE, KEYS, answer);
+    EXPECT("mz_order_accepted", answer, 0, 0, 0, 3);
+    mz_order(4, TEXT("a"), TEXT("a"), TABLE, KEYS, answer);
+    EXPECT("mz_order under collation 4", answer, 1, 0, 0, 0);
+    mz_substring(3, TEXT("\xCC\x81"), TEXT("\x61\xC3\xA9"), TABLE, KEYS, place);
+    EXPECT("mz_substring", place, 0, 0, 0, 1, 2, 4, 1, 3);
+    mz_substring_accepted(3, TEXT("z"), TEXT("\x61\xC3\xA9"), TABLE, KEYS, place);
+    EXPECT("mz_substring_accepted", place, 0, 0, 0, 2, 0, 0, 0, 0);
+}
+
+static void build_table(void) {
+    uint32_t built[8], parts[4];
+    uint64_t answer[6];
+    mz_add_line(0, 0, 0, TEXT("00C9;E WITH ACUTE;Lu;0;L;0045 0301;;;;N;;;;00E9;"), built, COUNT(built), parts, COUNT(parts), answer);
+    EXPECT("mz_add_line", answer, 0, 0, 0, 1, 2, 0xCA);
+    mz_add_line(1, 2, 0xCA, TEXT("00C9;;;;;;;;;;;;;;"), built, COUNT(built), parts, COUNT(parts), answer);
+    EXPECT("mz_add_line of the same code point", answer, 26, 0, 0, 1, 2, 0xCA);
+}
+
+int main(void) {
+    check_tables();
+    prepare_texts();
+    compare_texts();
+    build_table();
+    puts("the C interface answers as document 01 says");
+    return 0;
+}
