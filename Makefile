@@ -1,11 +1,20 @@
 # make test: prove every crate, try every must-fail edit, run every program and test. Its last line is `N passed, 0 failed`
 # when all is well, and never otherwise.
+# make lib: prove the library, and leave it for C and Rust in build/lib.
 # make pairs: prove and build the program `pairs`, and run it on the sample.
-# make bench: the search beside the C library's memmem, in one run.
-.PHONY: test pairs bench
+# make bench: names and the search beside other programs, in one run.
+.PHONY: test lib pairs bench
 
 test:
 	@bash tests/run.sh
+
+lib:
+	@mkdir -p build/lib
+	@echo 'proving and building the library (a few minutes the first time; build/lib.log says more)'
+	@rt staticlib mundeziwa > build/lib.log 2>&1 || { tail -n 20 build/lib.log; exit 1; }
+	@cp target/staticlib/libmundeziwa.a build/lib/
+	@cc -shared -o build/lib/libmundeziwa.so -Wl,--whole-archive build/lib/libmundeziwa.a -Wl,--no-whole-archive
+	@echo 'build/lib/libmundeziwa.a and build/lib/libmundeziwa.so; the header is include/mundeziwa.h, the Rust crate bindings/rust'
 
 pairs:
 	@mkdir -p build
@@ -13,8 +22,10 @@ pairs:
 	@rt check pairs > build/pairs.log 2>&1 || { tail -n 20 build/pairs.log; exit 1; }
 	@cd sample && ../target/bin/pairs < storms.txt
 
-bench:
-	@rt staticlib bench_find
-	@mkdir -p build
-	@cc -O3 -Wall -Wextra -o build/occurrence bench/occurrence.c target/staticlib/libbench_find.a
-	@./build/occurrence
+bench: lib
+	@mkdir -p build/bench
+	@rt staticlib bench_find > build/bench/bench_find.log 2>&1 || { tail -n 20 build/bench/bench_find.log; exit 1; }
+	@bash bench/build.sh
+	@./build/bench/occurrence
+	@echo
+	@./build/bench/names

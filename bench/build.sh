@@ -1,0 +1,43 @@
+#!/usr/bin/env bash
+# Builds the benchmarks: build/bench/occurrence, and build/bench/names with each program that can be built here; it says which can't.
+# MUNDEZIWA_ARCHIVE: the library's archive, if it isn't where `make lib` leaves it.
+set -euo pipefail
+cd "$(dirname "$0")/.."
+
+archive=${MUNDEZIWA_ARCHIVE:-build/lib/libmundeziwa.a}
+out=build/bench
+sources=(bench/names.c bench/inputs.c bench/agreement.c bench/straight.c bench/straight_lines.c bench/peers_mundeziwa.c)
+flags=()
+libraries=("$archive")
+
+# add_library NAME HEADER LIBRARY PACKAGE: adds bench/peers_NAME.c, if a program with that header and library can be built.
+add_library() {
+    if printf '#include <%s>\nint main(void) { return 0; }\n' "$2" | cc -x c - -o "$out/found" "-l$3" 2> /dev/null; then
+        sources+=("bench/peers_$1.c")
+        flags+=("-DWITH_${1^^}")
+        libraries+=("-l$3")
+    else
+        echo "no column for $1: Debian's package $4 is missing"
+    fi
+}
+
+# Adds the second program, if it and Rust's cargo are here.
+add_second() {
+    if [ ! -d tests/second ] || ! command -v cargo > /dev/null; then
+        echo "no column for the second program: tests/second or Rust's cargo is missing"
+        return
+    fi
+    CARGO_TARGET_DIR=$out/second cargo build --quiet --release --offline --manifest-path bench/second/Cargo.toml
+    sources+=(bench/peers_second.c)
+    flags+=(-DWITH_SECOND)
+    # Rust's own library needs the rest, where they are not part of the C library.
+    libraries+=("$out/second/release/libsecond_for_c.a" -lpthread -ldl -lm)
+}
+
+mkdir -p "$out"
+add_second
+add_library icu unicode/unorm2.h icuuc libicu-dev
+add_library utf8proc utf8proc.h utf8proc libutf8proc-dev
+add_library unistring uninorm.h unistring libunistring-dev
+cc -O3 -Wall -Wextra -o "$out/occurrence" bench/occurrence.c target/staticlib/libbench_find.a
+cc -O3 -Wall -Wextra "${flags[@]}" -o "$out/names" "${sources[@]}" "${libraries[@]}"

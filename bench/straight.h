@@ -1,0 +1,26 @@
+// i;unicode-casemap written by hand in C, without proof: the straight loop that the benchmark measures by.
+#ifndef BENCH_STRAIGHT_H
+#define BENCH_STRAIGHT_H
+
+#include "peers.h"
+
+// The most code points of a decomposition.
+#define PARTS_MOST 32
+
+static inline bool is_scalar(uint32_t c) {
+    return c <= 0x10FFFF && (c < 0xD800 || c > 0xDFFF);
+}
+
+// One character of UTF-8 at the start of a text: its width in octets, or 0 if it is malformed (RFC 3629).
+size_t straight_decode(const uint8_t *octets, size_t length, uint32_t *c);
+
+// The titlecase of a code point, itself if it has none.
+uint32_t straight_title(const struct table *table, uint32_t c);
+
+// Writes the full decomposition of a code point in UTF-8 at `at` and answers its end; NULL if that would pass `end`.
+uint8_t *straight_unfold(const struct table *table, uint32_t c, uint8_t *at, uint8_t *end);
+
+// Builds a table from lines of UnicodeData.txt; one with no entries if a line is refused.
+struct table straight_build(struct text lines, struct table_room room);
+
+#endif
