@@ -6,14 +6,13 @@ fn main() {
     println!("cargo:rerun-if-env-changed=MUNDEZIWA_LIB_DIR");
     let folder = match env::var_os("MUNDEZIWA_LIB_DIR") {
         Some(named) => PathBuf::from(named),
-        None => PathBuf::from(env::var_os("CARGO_MANIFEST_DIR").expect("cargo names the package's folder")).join("../../build/lib"),
+        None => {
+            PathBuf::from(env::var_os("CARGO_MANIFEST_DIR").expect("cargo names the package's folder")).join("../../build/lib")
+        }
     };
     let archive = folder.join("libmundeziwa.a");
     if !archive.is_file() {
-        panic!(
-            "{} is not there: run `make lib` in the repository, or name its folder with MUNDEZIWA_LIB_DIR",
-            archive.display()
-        );
+        panic!("{} is not there: run `make lib` in the repository, or name its folder with MUNDEZIWA_LIB_DIR", archive.display());
     }
     println!("cargo:rerun-if-changed={}", archive.display());
     println!("cargo:rustc-link-search=native={}", folder.display());

@@ -40,13 +40,7 @@ pub enum ReadError {
 impl TableBuilder {
     /// A builder with no line yet.
     pub fn new() -> TableBuilder {
-        TableBuilder {
-            entries: vec![0; 4 * ENTRIES_MOST],
-            pool: vec![0; POOL_MOST],
-            entries_used: 0,
-            pool_used: 0,
-            next: 0,
-        }
+        TableBuilder { entries: vec![0; 4 * ENTRIES_MOST], pool: vec![0; POOL_MOST], entries_used: 0, pool_used: 0, next: 0 }
     }
 
     /// Reads every line, as of the whole UnicodeData.txt. A line ends at a line feed, which alone is cut off.

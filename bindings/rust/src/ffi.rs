@@ -1,5 +1,23 @@
 //! The calls of include/mundeziwa.h that this crate uses. A slice is a pointer and the number of its elements.
 
+/// A call on two texts that answers a row of N numbers: collation; first, second; entries, pool; first key, second key.
+pub type Comparing<const N: usize> = unsafe extern "C" fn(
+    u32,
+    *const u8,
+    usize,
+    *const u8,
+    usize,
+    *const u32,
+    usize,
+    *const u32,
+    usize,
+    *mut u8,
+    usize,
+    *mut u8,
+    usize,
+    *mut [u64; N],
+);
+
 extern "C" {
     pub fn mz_check_table(
         entries: *const u32,

@@ -115,17 +115,7 @@ impl<'a> Table<'a> {
     ///
     /// Refusal 2.
     pub fn equal(&self, collation: Collation, first: impl AsRef<[u8]>, second: impl AsRef<[u8]>) -> Result<bool, Refusal> {
-        let mut answer = [0; 4];
-        self.compare(first.as_ref(), second.as_ref(), |c| {
-            // SAFETY: as `compare` says.
-            unsafe {
-                ffi::mz_equal_accepted(
-                    collation as u32, c.first.0, c.first.1, c.second.0, c.second.1, c.entries.0, c.entries.1, c.pool.0, c.pool.1,
-                    c.first_key.0, c.first_key.1, c.second_key.0, c.second_key.1, &mut answer,
-                )
-            }
-        });
-        Refusal::of(&answer)?;
+        let answer = self.compare(ffi::mz_equal_accepted, collation, first.as_ref(), second.as_ref())?;
         Ok(answer[3] == 1)
     }
 
@@ -133,17 +123,7 @@ impl<'a> Table<'a> {
     ///
     /// Refusal 2.
     pub fn order(&self, collation: Collation, first: impl AsRef<[u8]>, second: impl AsRef<[u8]>) -> Result<Ordering, Refusal> {
-        let mut answer = [0; 4];
-        self.compare(first.as_ref(), second.as_ref(), |c| {
-            // SAFETY: as `compare` says.
-            unsafe {
-                ffi::mz_order_accepted(
-                    collation as u32, c.first.0, c.first.1, c.second.0, c.second.1, c.entries.0, c.entries.1, c.pool.0, c.pool.1,
-                    c.first_key.0, c.first_key.1, c.second_key.0, c.second_key.1, &mut answer,
-                )
-            }
-        });
-        Refusal::of(&answer)?;
+        let answer = self.compare(ffi::mz_order_accepted, collation, first.as_ref(), second.as_ref())?;
         Ok(match answer[3] {
             1 => Ordering::Less,
             2 => Ordering::Equal,
@@ -165,45 +145,45 @@ impl<'a> Table<'a> {
     /// # Ok::<(), mundeziwa::Refusal>(())
     /// ```
     pub fn find(&self, collation: Collation, first: impl AsRef<[u8]>, second: impl AsRef<[u8]>) -> Result<Option<Hit>, Refusal> {
-        let mut answer = [0; 8];
-        self.compare(first.as_ref(), second.as_ref(), |c| {
-            // SAFETY: as `compare` says.
-            unsafe {
-                ffi::mz_substring_accepted(
-                    collation as u32, c.first.0, c.first.1, c.second.0, c.second.1, c.entries.0, c.entries.1, c.pool.0, c.pool.1,
-                    c.first_key.0, c.first_key.1, c.second_key.0, c.second_key.1, &mut answer,
-                )
-            }
-        });
-        Refusal::of(&answer)?;
+        let answer = self.compare(ffi::mz_substring_accepted, collation, first.as_ref(), second.as_ref())?;
         let [_, _, _, found, key_start, key_end, text_start, text_end] = answer.map(|n| n as usize);
         Ok((found == 1).then_some(Hit { key: key_start..key_end, text: text_start..text_end }))
     }
 
-    /// Lends a comparing call its arguments. The table was accepted and is borrowed, so it is as it was checked; both keys have room
-    /// for any text of that length, and overlap no other argument, since they are this module's own.
-    fn compare(&self, first: &[u8], second: &[u8], call: impl FnOnce(Arguments)) {
+    /// Makes a comparing call over this table, and answers its row if it was not refused.
+    fn compare<const N: usize>(
+        &self,
+        call: ffi::Comparing<N>,
+        collation: Collation,
+        first: &[u8],
+        second: &[u8],
+    ) -> Result<[u64; N], Refusal> {
+        let mut answer = [0; N];
         KEYS.with_borrow_mut(|keys| {
             make_room(&mut keys.first, first);
             make_room(&mut keys.second, second);
-            call(Arguments {
-                first: (first.as_ptr(), first.len()),
-                second: (second.as_ptr(), second.len()),
-                entries: (self.entries.as_ptr(), self.entries.len()),
-                pool: (self.pool.as_ptr(), self.pool.len()),
-                first_key: (keys.first.as_mut_ptr(), keys.first.len()),
-                second_key: (keys.second.as_mut_ptr(), keys.second.len()),
-            })
-        })
+            // SAFETY: the table was accepted and is borrowed, so it is as it was checked; the keys overlap no other argument, since
+            // they are this module's own.
+            unsafe {
+                call(
+                    collation as u32,
+                    first.as_ptr(),
+                    first.len(),
+                    second.as_ptr(),
+                    second.len(),
+                    self.entries.as_ptr(),
+                    self.entries.len(),
+                    self.pool.as_ptr(),
+                    self.pool.len(),
+                    keys.first.as_mut_ptr(),
+                    keys.first.len(),
+                    keys.second.as_mut_ptr(),
+                    keys.second.len(),
+                    &mut answer,
+                )
+            }
+        });
+        Refusal::of(&answer)?;
+        Ok(answer)
     }
-}
-
-/// The arguments of a comparing call, each slice as a pointer and its number of elements.
-struct Arguments {
-    first: (*const u8, usize),
-    second: (*const u8, usize),
-    entries: (*const u32, usize),
-    pool: (*const u32, usize),
-    first_key: (*mut u8, usize),
-    second_key: (*mut u8, usize),
 }

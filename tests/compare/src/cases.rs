@@ -1,0 +1,117 @@
+//! Part 5: random and hostile tables, texts, lines and states, all from one seed.
+
+use crate::both::Table;
+use crate::building::Building;
+use crate::lines::{self, Published};
+use crate::published::{lines_of, read_file};
+use crate::random::Random;
+use crate::{faults, tables, texts, Settings};
+use second::unicode_data::State;
+use std::collections::BTreeMap;
+
+/// With this many cases every refusal must have come up, or the cases would not be what this part says they are.
+const ENOUGH: u64 = 20_000;
+
+/// How often each answer came.
+#[derive(Default)]
+struct Tally {
+    calls: BTreeMap<u64, u64>,
+    lines: BTreeMap<u64, u64>,
+    matches: u64,
+    runs: u64,
+}
+
+pub fn run(settings: &Settings) -> Result<u64, String> {
+    let octets = read_file(&settings.unicode_data)?;
+    let published = Published::new(lines_of(&octets));
+    let mut random = Random::new(settings.seed);
+    let mut tally = Tally::default();
+    for number in 0..settings.cases {
+        let outcome = match number % 20 {
+            _ if number % 4_000 == 0 => one_table(&mut random, &mut tally, tables::at_the_limits),
+            0..=10 => one_table(&mut random, &mut tally, tables::any),
+            11..=18 => one_line(&mut random, &mut tally, &published),
+            _ => one_file(&mut random, &mut tally, &published),
+        };
+        outcome.map_err(|difference| format!("case {number} of seed {}\n{difference}", settings.seed))?;
+    }
+    tally.report(settings.cases)?;
+    Ok(settings.cases)
+}
+
+/// A table, in a third of the cases with faults put in, and a pair of texts over it.
+fn one_table(random: &mut Random, tally: &mut Tally, make: fn(&mut Random) -> tables::Slices) -> Result<(), String> {
+    let mut slices = make(random);
+    if random.one_in(3) {
+        faults::spoil(random, &mut slices);
+    }
+    let table = Table::new(slices.0, slices.1)?;
+    one_pair(random, tally, &table)
+}
+
+fn one_pair(random: &mut Random, tally: &mut Tally, table: &Table) -> Result<(), String> {
+    let case = texts::case(random, table);
+    let row = table.make_all_calls(&case)?;
+    *tally.calls.entry(row[0]).or_default() += 1;
+    if row[3] == 1 && row[5] > 0 {
+        tally.matches += 1;
+        tally.runs += ((row[4], row[5]) != (row[6], row[7])) as u64;
+    }
+    Ok(())
+}
+
+/// One line, added to a state of any kind.
+fn one_line(random: &mut Random, tally: &mut Tally, published: &Published) -> Result<(), String> {
+    let line = lines::line(random, published);
+    let (entries_length, pool_length, state) = lines::state(random, &line);
+    let mut building = Building::new(entries_length, pool_length);
+    let answer = building.add_line(state, &line)?;
+    *tally.lines.entry(answer[0]).or_default() += 1;
+    building.compare_slices()
+}
+
+/// Lines from the fresh state on; the table they leave passes checks 3 to 6, and is used if it is accepted.
+fn one_file(random: &mut Random, tally: &mut Tally, published: &Published) -> Result<(), String> {
+    let mut building = Building::new(random.between(0, 250), random.between(0, 120));
+    let mut state = State::default();
+    let mut at = random.below(published.mapped.len());
+    for _ in 0..random.between(1, 60) {
+        let mut line = published.lines[published.mapped[at % published.mapped.len()]].to_vec();
+        if random.one_in(6) {
+            lines::change(random, &mut line);
+        }
+        at += random.pick(&[0, 1, 1, 1, 1, 1, 2, 30]);
+        let answer = building.add_line(state, &line)?;
+        *tally.lines.entry(answer[0]).or_default() += 1;
+        state = State { entries_used: answer[3], pool_used: answer[4], next: answer[5] };
+    }
+    building.compare_slices()?;
+    let entries = building.entries[..4 * state.entries_used as usize].to_vec();
+    let pool = building.pool[..state.pool_used as usize].to_vec();
+    let table = Table::new(entries, pool)?;
+    if !matches!(table.row()[0], 0 | 7) {
+        return Err(format!("a built table is refused: {:?}\n{}", table.row(), table.describe()));
+    }
+    one_pair(random, tally, &table)
+}
+
+impl Tally {
+    /// Prints how often each answer came, and fails if one that could come never did.
+    fn report(&self, cases: u64) -> Result<(), String> {
+        println!("  answers to pairs of texts: {}", Tally::list(&self.calls));
+        println!("  answers to lines: {}", Tally::list(&self.lines));
+        println!("  matches: {}, of them with another place in the text than in the key: {}", self.matches, self.runs);
+        let calls = (0..=8).filter(|number| !self.calls.contains_key(number));
+        let lines = std::iter::once(0).chain(20..=28).filter(|number| !self.lines.contains_key(number));
+        let missing: Vec<u64> = calls.chain(lines).collect();
+        if cases >= ENOUGH && (!missing.is_empty() || self.runs == 0) {
+            return Err(format!("answers that never came: {missing:?}"));
+        }
+        Ok(())
+    }
+
+    fn list(counts: &BTreeMap<u64, u64>) -> String {
+        let counts: Vec<String> = counts.iter().map(|(number, count)| format!("{number}: {count}")).collect();
+        counts.join(", ")
+    }
+}

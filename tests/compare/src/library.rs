@@ -1,0 +1,148 @@
+//! The C calls of the proved library (include/mundeziwa.h), made on guarded memory.
+
+pub use crate::abi::Call;
+use crate::abi::{comparing, mz_add_line, mz_check_table, preparing};
+use crate::lent::Lent;
+use second::unicode_data::State;
+
+/// The answer row before a call: each call must write the whole of it, and nothing after it.
+const ROW_UNWRITTEN: u64 = 0xA5A5_5A5A_C3C3_3C3C;
+const OCTET_GUARD: u8 = 0x9D;
+const NUMBER_GUARD: u32 = 0x9D9D_9D9D;
+pub const ROW_MOST: usize = 8;
+
+/// A table lent to the library for many calls.
+pub struct LentTable {
+    pub entries: Lent<u32>,
+    pub pool: Lent<u32>,
+}
+
+impl LentTable {
+    pub fn new(entries: &[u32], pool: &[u32]) -> LentTable {
+        LentTable { entries: Lent::new(entries, NUMBER_GUARD), pool: Lent::new(pool, NUMBER_GUARD) }
+    }
+
+    pub fn still_holds(&self, entries: &[u32], pool: &[u32]) -> bool {
+        self.entries.still_holds(entries) && self.pool.still_holds(pool)
+    }
+
+    pub fn check(&self) -> Result<[u64; 3], String> {
+        let mut answer = new_row();
+        unsafe {
+            mz_check_table(
+                self.entries.pointer(),
+                self.entries.length(),
+                self.pool.pointer(),
+                self.pool.length(),
+                answer.pointer_mut(),
+            );
+        }
+        row::<3>(&answer)
+    }
+}
+
+fn new_row() -> Lent<u64> {
+    Lent::new(&[ROW_UNWRITTEN; ROW_MOST], ROW_UNWRITTEN)
+}
+
+/// The first N numbers of a row; those after them must not be written.
+fn row<const N: usize>(answer: &Lent<u64>) -> Result<[u64; N], String> {
+    let (written, rest) = answer.content().split_at(N);
+    if !answer.guards_stay() || rest.iter().any(|&number| number != ROW_UNWRITTEN) {
+        return Err("the library wrote outside its answer row".to_string());
+    }
+    Ok(written.try_into().expect("split at N"))
+}
+
+/// Prepares one text; the buffer is filled from `buffer` before and copied back after.
+pub fn prepare(accepted: bool, collation: u32, text: &[u8], table: &LentTable, buffer: &mut [u8]) -> Result<[u64; 7], String> {
+    let lent_text = Lent::new(text, OCTET_GUARD);
+    let mut key = Lent::new(buffer, OCTET_GUARD);
+    let mut answer = new_row();
+    unsafe {
+        preparing(accepted)(
+            collation,
+            lent_text.pointer(),
+            lent_text.length(),
+            table.entries.pointer(),
+            table.entries.length(),
+            table.pool.pointer(),
+            table.pool.length(),
+            key.pointer_mut(),
+            key.length(),
+            answer.pointer_mut(),
+        );
+    }
+    if !lent_text.still_holds(text) || !key.guards_stay() {
+        return Err("the library changed its text or wrote outside its key buffer".to_string());
+    }
+    buffer.copy_from_slice(key.content());
+    row::<7>(&answer)
+}
+
+/// Makes one of the comparing calls; both buffers are filled from the arguments before and copied back after.
+pub fn compare<const N: usize>(
+    (call, accepted): (Call, bool),
+    collation: u32,
+    (first, second): (&[u8], &[u8]),
+    table: &LentTable,
+    (first_buffer, second_buffer): (&mut [u8], &mut [u8]),
+) -> Result<[u64; N], String> {
+    let lent_first = Lent::new(first, OCTET_GUARD);
+    let lent_second = Lent::new(second, OCTET_GUARD);
+    let mut first_key = Lent::new(first_buffer, OCTET_GUARD);
+    let mut second_key = Lent::new(second_buffer, OCTET_GUARD);
+    let mut answer = new_row();
+    unsafe {
+        comparing(call, accepted)(
+            collation,
+            lent_first.pointer(),
+            lent_first.length(),
+            lent_second.pointer(),
+            lent_second.length(),
+            table.entries.pointer(),
+            table.entries.length(),
+            table.pool.pointer(),
+            table.pool.length(),
+            first_key.pointer_mut(),
+            first_key.length(),
+            second_key.pointer_mut(),
+            second_key.length(),
+            answer.pointer_mut(),
+        );
+    }
+    if !lent_first.still_holds(first) || !lent_second.still_holds(second) {
+        return Err("the library changed a text".to_string());
+    }
+    if !first_key.guards_stay() || !second_key.guards_stay() {
+        return Err("the library wrote outside a key buffer".to_string());
+    }
+    first_buffer.copy_from_slice(first_key.content());
+    second_buffer.copy_from_slice(second_key.content());
+    row::<N>(&answer)
+}
+
+/// Adds one line to the slices that are lent for building.
+pub fn add_line(state: State, line: &[u8], table: &mut LentTable) -> Result<[u64; 6], String> {
+    let lent_line = Lent::new(line, OCTET_GUARD);
+    let mut answer = new_row();
+    let (entries_length, pool_length) = (table.entries.length(), table.pool.length());
+    unsafe {
+        mz_add_line(
+            state.entries_used,
+            state.pool_used,
+            state.next,
+            lent_line.pointer(),
+            lent_line.length(),
+            table.entries.pointer_mut(),
+            entries_length,
+            table.pool.pointer_mut(),
+            pool_length,
+            answer.pointer_mut(),
+        );
+    }
+    if !lent_line.still_holds(line) || !table.entries.guards_stay() || !table.pool.guards_stay() {
+        return Err("the library changed its line or wrote outside a slice".to_string());
+    }
+    row::<6>(&answer)
+}

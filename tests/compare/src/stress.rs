@@ -1,0 +1,72 @@
+//! Part 3: which octet sequences are valid UTF-8. Three must agree: the library, the second program, and the standard library of
+//! Rust; and for the published stress test the verdict that RFC 3629 gives.
+
+use crate::both::Table;
+use crate::hex::hex;
+use crate::published::{lines_of, read_file};
+use crate::Settings;
+
+/// The sequences of the published stress test, with a verdict each.
+const SEQUENCES: &str = include_str!("../../data/utf8-sequences.txt");
+
+/// Octets next to which some rule of RFC 3629 changes.
+const EDGES: [u8; 26] = [
+    0x00, 0x2F, 0x7F, 0x80, 0x8F, 0x90, 0x9F, 0xA0, 0xBF, 0xC0, 0xC1, 0xC2, 0xDF, 0xE0, 0xE1, 0xEC, 0xED, 0xEE, 0xEF, 0xF0, 0xF1,
+    0xF3, 0xF4, 0xF5, 0xF8, 0xFF,
+];
+
+pub fn run(settings: &Settings) -> Result<u64, String> {
+    let table = Table::new(vec![], vec![])?;
+    let mut cases = listed(&table)?;
+    cases += edges(&table, if settings.short { 2 } else { 4 })?;
+    if let Some(path) = &settings.utf8_test {
+        for line in lines_of(&read_file(path)?) {
+            is_valid(&table, line)?;
+            cases += 1;
+        }
+    }
+    Ok(cases)
+}
+
+/// Whether a text is valid, as all three say.
+fn is_valid(table: &Table, text: &[u8]) -> Result<bool, String> {
+    let answer = table.prepare(true, 3, text, text.len())?;
+    let valid = answer.row[3] == 1;
+    if answer.row[0] != 0 || valid != std::str::from_utf8(text).is_ok() {
+        return Err(format!("{}: both programs answer {:?}, the standard library differs", hex(text), answer.row));
+    }
+    Ok(valid)
+}
+
+/// Every sequence of the data file: its number, its verdict, its octets.
+fn listed(table: &Table) -> Result<u64, String> {
+    let mut cases = 0;
+    for line in SEQUENCES.lines().filter(|line| !line.is_empty() && !line.starts_with('#')) {
+        let words: Vec<&str> = line.split_whitespace().collect();
+        let octets: Option<Vec<u8>> = words[2..].iter().map(|digits| u8::from_str_radix(digits, 16).ok()).collect();
+        let octets = octets.ok_or_else(|| format!("the data file has a line that can't be read: {line}"))?;
+        let verdict = if is_valid(table, &octets)? { "valid" } else { "invalid" };
+        if verdict != words[1] {
+            return Err(format!("{line}: both programs say {verdict}"));
+        }
+        cases += 1;
+    }
+    match cases {
+        0 => Err("the data file of UTF-8 sequences is empty".to_string()),
+        _ => Ok(cases),
+    }
+}
+
+/// Every sequence of at most so many octets out of `EDGES`.
+fn edges(table: &Table, longest: u32) -> Result<u64, String> {
+    let mut cases = 0;
+    for length in 1..=longest {
+        for number in 0..EDGES.len().pow(length) {
+            let digit = |place| EDGES[number / EDGES.len().pow(place) % EDGES.len()];
+            let text: Vec<u8> = (0..length).map(digit).collect();
+            is_valid(table, &text)?;
+            cases += 1;
+        }
+    }
+    Ok(cases)
+}

@@ -1,0 +1,53 @@
+"""NFKD of the simple titlecase of every code point, for the comparison with the second program (part 2).
+
+Usage: nfkd.py UnicodeData.txt > FILE. Each line is a code point and the octets of its key in hex; the last says how many there
+were. The titlecase is field 14 of UnicodeData.txt, since Python's str.title() has the full casing that RFC 5051 doesn't use. NFKD
+is Python's own: of a single code point it is the decomposition that RFC 5051 takes, since no single one has marks out of order.
+Left out: Hangul syllables, whose decomposition isn't in UnicodeData.txt, and code points that either the file or Python's edition
+of Unicode has not assigned.
+"""
+
+import sys
+import unicodedata
+
+HANGUL_SYLLABLES = range(0xAC00, 0xD7A4)
+SURROGATES = range(0xD800, 0xE000)
+
+
+def read(path):
+    """The code points that the file assigns, ranges filled in, and field 14 by code point where it isn't empty."""
+    assigned, titlecases = set(), {}
+    first = None
+    with open(path, encoding="ascii") as lines:
+        for line in lines:
+            fields = line.rstrip("\n").split(";")
+            code_point = int(fields[0], 16)
+            if fields[1].endswith(", First>"):
+                first = code_point
+            if fields[1].endswith(", Last>"):
+                assigned.update(range(first, code_point))
+            assigned.add(code_point)
+            if fields[14]:
+                titlecases[code_point] = int(fields[14], 16)
+    return assigned, titlecases
+
+
+def is_compared(code_point):
+    """Whether Python can say what the key of an assigned code point is."""
+    if code_point in HANGUL_SYLLABLES or code_point in SURROGATES:
+        return False
+    return unicodedata.category(chr(code_point)) != "Cn"
+
+
+def main():
+    assigned, titlecases = read(sys.argv[1])
+    total = 0
+    for code_point in filter(is_compared, sorted(assigned)):
+        titlecase = chr(titlecases.get(code_point, code_point))
+        key = unicodedata.normalize("NFKD", titlecase)
+        print(f"{code_point:04X} {key.encode('utf-8').hex().upper()}")
+        total += 1
+    print(f"total {total}")
+
+
+main()
