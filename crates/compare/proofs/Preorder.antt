@@ -3,15 +3,13 @@
 -- whatever their key buffers held, and of the `_accepted` calls too, whose contracts are the same.
 -- Assumes nothing.
 use mathlib.Core.Path.{_≡_, refl, sym, ap, _∙_}
-use Prim.Native.Nat.{ℕ, Ordering, Ordering·lt, Ordering·eq, Ordering·gt}
+use Prim.Native.Nat.{ℕ, Ordering}
 use mathlib.Core.Bool.{Bool, true, false}
 use mathlib.Core.Logic.{_⊎_, inl, inr, _↔_}
-use mathlib.Core.Option.{Option, none, some}
+use mathlib.Core.Option.{none}
 use mathlib.Core.List.{List, [], _∷_}
 use lib.ListN.{length}
 use Rattle.terms.specs.Lists.{orElse, there}
-use Rattle.terms.specs.Refusals.{answer, given}
-use Rattle.terms.specs.declared.Refusal.{Refusal}
 use Rattle.table.specs.Table.{mappingOf}
 use Rattle.utf8.specs.Utf8.{characters}
 use Rattle.decompose.specs.TableCheck.{tableRefusal}
@@ -21,151 +19,18 @@ use Rattle.prepare.proofs.Collations.{tableUnder-unicode}
 use Rattle.terms.proofs.Checks.{orElse-neither}
 use Rattle.prepare.proofs.Joining.{front, front-passed, callRefusal-two}
 use Rattle.prepare.proofs.Validity.{valid-invalid-differ}
-use Rattle.compare.specs.Compare.{equalityTold, orderTold, orderNumber, equalityNumber, textOrder}
-use Rattle.compare.specs.Promises.{equalityBy, Equals, Orders}
+use Rattle.compare.specs.Compare.{textOrder}
+use Rattle.compare.specs.Promises.{equalityBy}
 use Rattle.compare.specs.declared.Equality.{Equality}
-use Rattle.compare.specs.declared.Equality.the-variants.{Match, NoMatch, Refused}
+use Rattle.compare.specs.declared.Equality.the-variants.{Match}
 use Rattle.compare.specs.declared.Ordered.{Ordered}
-use Rattle.compare.specs.declared.Ordered.the-variants.{Less, Equal, Greater, Refused as Unordered}
+use Rattle.compare.specs.declared.Ordered.the-variants.{Less, Equal, Greater}
 use Rattle.compare.proofs.Answers.{equalityTold-inj, orderTold-inj}
-use Rattle.compare.proofs.KeyOrder.{flip, AtMost, at-most-trans, at-most-total}
+use Rattle.compare.proofs.KeyOrder.{AtMost, at-most-trans, at-most-total}
+use Rattle.compare.proofs.Says.{OrderSays, EqualSays, orderedBy, flipped, orderedBy-told, orderedBy-decided, orderedBy-equal, orderedBy-match, orderedBy-less, orderedBy-greater, orderedBy-flip, order-unrefused, equal-unrefused}
 use Rattle.compare.proofs.TextOrder.{text-order-tie, text-order-same, text-order-flip, text-order-trans}
 
--- ---- answers that are not refusals
-
--- an order is not a refusal
-abbrev pub OrderTaken : Ordered → Type 0
-OrderTaken Less = Unit {0}
-OrderTaken Equal = Unit {0}
-OrderTaken Greater = Unit {0}
-OrderTaken (Unordered r) = ⊥
-
--- an equality is not a refusal
-abbrev pub EqualityTaken : Equality → Type 0
-EqualityTaken Match = Unit {0}
-EqualityTaken NoMatch = Unit {0}
-EqualityTaken (Refused r) = ⊥
-
--- a call of `order` under a collation, over a table and on two texts, gave this answer, which is not a refusal
-pub record OrderSays (k : ℕ) (es pool s t : List ℕ) (r : Ordered) : Type 0 where
-  pub sBuffer : List ℕ
-  pub tBuffer : List ℕ
-  pub sAfter : List ℕ
-  pub tAfter : List ℕ
-  pub call : Orders k s t es pool sBuffer tBuffer r sAfter tAfter
-  pub taken : OrderTaken r
-
--- a call of `equal` gave this answer, which is not a refusal
-pub record EqualSays (k : ℕ) (es pool s t : List ℕ) (r : Equality) : Type 0 where
-  pub sBuffer : List ℕ
-  pub tBuffer : List ℕ
-  pub sAfter : List ℕ
-  pub tAfter : List ℕ
-  pub call : Equals k s t es pool sBuffer tBuffer r sAfter tAfter
-  pub taken : EqualityTaken r
-
--- from the contract of `order`
-pub order-says : {k : ℕ} {es pool s t sBuffer tBuffer sAfter tAfter : List ℕ} {r : Ordered}
-    → Orders k s t es pool sBuffer tBuffer r sAfter tAfter
-    → OrderTaken r
-    → OrderSays k es pool s t r
-order-says {sBuffer} {tBuffer} {sAfter} {tAfter} h taken = record {
-  sBuffer = sBuffer;
-  tBuffer = tBuffer;
-  sAfter = sAfter;
-  tAfter = tAfter;
-  call = h;
-  taken = taken;
-}
-
--- from the contract of `equal`
-pub equal-says : {k : ℕ} {es pool s t sBuffer tBuffer sAfter tAfter : List ℕ} {r : Equality}
-    → Equals k s t es pool sBuffer tBuffer r sAfter tAfter
-    → EqualityTaken r
-    → EqualSays k es pool s t r
-equal-says {sBuffer} {tBuffer} {sAfter} {tAfter} h taken = record {
-  sBuffer = sBuffer;
-  tBuffer = tBuffer;
-  sAfter = sAfter;
-  tAfter = tAfter;
-  call = h;
-  taken = taken;
-}
-
--- ---- the answer is the order of the keys
-
--- an order of keys as an answer
-abbrev pub orderedBy : Ordering → Ordered
-orderedBy Ordering·lt = Less
-orderedBy Ordering·eq = Equal
-orderedBy Ordering·gt = Greater
-
--- an answer with its two texts exchanged
-abbrev pub flipped : Ordered → Ordered
-flipped Less = Greater
-flipped Equal = Equal
-flipped Greater = Less
-flipped (Unordered r) = Unordered r
-
-orderedBy-told : (o : Ordering) → orderTold (orderedBy o) ≡ given (orderNumber o ∷ [])
-orderedBy-told Ordering·lt = refl
-orderedBy-told Ordering·eq = refl
-orderedBy-told Ordering·gt = refl
-
-orderedBy-decided : (o : Ordering) → equalityTold (equalityBy (orderedBy o)) ≡ given (equalityNumber o ∷ [])
-orderedBy-decided Ordering·lt = refl
-orderedBy-decided Ordering·eq = refl
-orderedBy-decided Ordering·gt = refl
-
-orderedBy-equal : (o : Ordering) → orderedBy o ≡ Equal → o ≡ Ordering·eq
-orderedBy-equal Ordering·lt e = cc
-orderedBy-equal Ordering·eq e = refl
-orderedBy-equal Ordering·gt e = cc
-
-orderedBy-match : (o : Ordering) → equalityBy (orderedBy o) ≡ Match → o ≡ Ordering·eq
-orderedBy-match Ordering·lt e = cc
-orderedBy-match Ordering·eq e = refl
-orderedBy-match Ordering·gt e = cc
-
-orderedBy-less : (o : Ordering) → orderedBy o ≡ Less → o ≡ Ordering·lt
-orderedBy-less Ordering·lt e = refl
-orderedBy-less Ordering·eq e = cc
-orderedBy-less Ordering·gt e = cc
-
-orderedBy-greater : (o : Ordering) → orderedBy o ≡ Greater → o ≡ Ordering·gt
-orderedBy-greater Ordering·lt e = cc
-orderedBy-greater Ordering·eq e = cc
-orderedBy-greater Ordering·gt e = refl
-
-orderedBy-flip : (o : Ordering) → orderedBy (flip o) ≡ flipped (orderedBy o)
-orderedBy-flip Ordering·lt = refl
-orderedBy-flip Ordering·eq = refl
-orderedBy-flip Ordering·gt = refl
-
--- what is not a refusal was refused by nothing
-order-none : (r : Ordered) (x : Option Refusal) (vs : List ℕ) → OrderTaken r → orderTold r ≡ answer x vs → x ≡ none
-order-none Less none vs h e = refl
-order-none Less (some x) vs h e = cc
-order-none Equal none vs h e = refl
-order-none Equal (some x) vs h e = cc
-order-none Greater none vs h e = refl
-order-none Greater (some x) vs h e = cc
-order-none (Unordered r) x vs h e = absurd h
-
-equality-none : (r : Equality) (x : Option Refusal) (vs : List ℕ) → EqualityTaken r → equalityTold r ≡ answer x vs → x ≡ none
-equality-none Match none vs h e = refl
-equality-none Match (some x) vs h e = cc
-equality-none NoMatch none vs h e = refl
-equality-none NoMatch (some x) vs h e = cc
-equality-none (Refused r) x vs h e = absurd h
-
 module _ {k : ℕ} {es pool s t : List ℕ} where
-  order-unrefused : {r : Ordered} → (c : OrderSays k es pool s t r) → compareRefusal k s t es pool (c .sBuffer) (c .tBuffer) ≡ none
-  order-unrefused {r} c = order-none r _ _ (c .taken) (c .call .answered)
-
-  equal-unrefused : {r : Equality} → (c : EqualSays k es pool s t r) → compareRefusal k s t es pool (c .sBuffer) (c .tBuffer) ≡ none
-  equal-unrefused {r} c = equality-none r _ _ (c .taken) (c .call .answered)
-
   -- `order` answers the order of the keys
   pub answers-keys : {r : Ordered} → OrderSays k es pool s t r → r ≡ orderedBy (textOrder k (mappingOf es pool) s t)
   answers-keys {r} c =

@@ -5,7 +5,7 @@
 -- are written and the asks which are counted are those of the published steps is `write_expansion`'s contract, `ExpansionFilled`
 -- (specs/Promises.antt), and `size_expansion`'s for the numbers alone.
 -- Assumes nothing.
-use mathlib.Core.Path.{_≡_, refl, sym, ap}
+use mathlib.Core.Path.{_≡_, refl, ap}
 use Prim.Native.Nat.{ℕ, _*_, _≤_, _<_}
 use native.Mathlib.Omega.{arith}
 use mathlib.Core.Bool.{true, false, not}
@@ -21,7 +21,7 @@ use Rattle.terms.specs.Refusals.{levelsMost, fullMost}
 use Rattle.terms.specs.declared.Refusal.{Refusal}
 use Rattle.terms.proofs.Checks.{orElse-neither}
 use Rattle.terms.proofs.Lowest.{lowest-none, lowest-nowhere}
-use Rattle.terms.proofs.Tests.{both, join, none-some}
+use Rattle.terms.proofs.Tests.{both, join}
 use Rattle.table.specs.Mapping.{Mapping}
 use Rattle.table.specs.Table.{entryCount, codeAt, refusedAt, formRefusal, entryOf, mappingOf}
 use Rattle.table.proofs.Form.{refusedAt-none, entryOf-some, formed-title-scalar, formed-parts-scalar}

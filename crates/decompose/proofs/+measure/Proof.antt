@@ -13,7 +13,8 @@ use Rattle.table.specs.Mapping.{Mapping}
 use Rattle.table.specs.Table.{mappingOf}
 use Rattle.table.proofs.Form.{formed-parts-most}
 use Rattle.decompose.specs.Promises.{measured, measurementTold}
-use Rattle.decompose.proofs.Walk.{parts-none, measured-whole, Split, measuredParts, measured-parts, measured-none, Measuring, measuring-start, measuring-more, measuring-done, measuring-stop}
+use Rattle.decompose.proofs.Walk.{parts-none, measured-whole, Split}
+use Rattle.decompose.proofs.Measuring.{measuredParts, measured-parts, measured-none, Measuring, measuring-start, measuring-more, measuring-done, measuring-stop}
 use borrow.Fn.Kinds.{In, Out}
 use borrow.Fn.PlainCycle.{Measures, is, falls, and}
 use Rattle.decompose.proofs.measure.Reads as reads

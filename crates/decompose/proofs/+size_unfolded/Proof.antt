@@ -8,7 +8,8 @@ use borrow.Author.Needs.{needs}
 use Rattle.table.specs.Mapping.{Mapping}
 use Rattle.table.specs.Table.{mappingOf}
 use Rattle.table.proofs.Form.{formed-parts-most}
-use Rattle.decompose.proofs.Walk.{parts-none, counted-whole, Split, bounded-levels, bounded-part, bounded-octets, bounded-asks, Sizing, sizing-start, sizing-more, sizing-done, sizing-octets, sizing-asked}
+use Rattle.decompose.proofs.Walk.{parts-none, counted-whole, Split, bounded-levels, bounded-part, bounded-octets, bounded-asks}
+use Rattle.decompose.proofs.Unfolding.{Sizing, sizing-start, sizing-more, sizing-done, sizing-octets, sizing-asked}
 use borrow.Fn.Kinds.{In, Out}
 use borrow.Fn.PlainCycle.{Measures, is, falls, and}
 use Rattle.decompose.proofs.size_unfolded.Reads as reads

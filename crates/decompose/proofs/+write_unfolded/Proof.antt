@@ -17,7 +17,8 @@ use Rattle.table.specs.Mapping.{Mapping}
 use Rattle.table.specs.Table.{mappingOf}
 use Rattle.table.proofs.Form.{formed-parts-scalar, formed-parts-most}
 use Rattle.utf8.proofs.Encode.{scalar-most}
-use Rattle.decompose.proofs.Walk.{parts-none, encodes-whole, filled-whole, Split, bounded-levels, bounded-part, bounded-octets, bounded-asks, sizing-octets, sizing-asked, Writing, writing-start, writing-more, writing-done, writing-length, writing-room}
+use Rattle.decompose.proofs.Walk.{parts-none, encodes-whole, filled-whole, Split, bounded-levels, bounded-part, bounded-octets, bounded-asks}
+use Rattle.decompose.proofs.Unfolding.{sizing-octets, sizing-asked, Writing, writing-start, writing-more, writing-done, writing-length, writing-room}
 use borrow.Fn.Kinds.{In, Out}
 use borrow.Fn.PlainCycle.{Measures, is, falls, and}
 use Rattle.decompose.proofs.write_unfolded.Reads as reads

@@ -1,6 +1,6 @@
 -- `prepare::prepare_ready` meets its contract: in a roomy buffer 8 does not apply, and the key is filled in; else it is sized first.
 -- Assumes nothing.
-use mathlib.Core.Path.{_≡_, sym, _∙_}
+use mathlib.Core.Path.{sym, _∙_}
 use lib.ListN.{length}
 use borrow.Author.Needs.{needs}
 use Rattle.prepare.proofs.Collations.{tableUnder-unicode}

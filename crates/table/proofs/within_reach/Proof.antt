@@ -1,9 +1,7 @@
 -- `table::within_reach` meets its contract: the code points ascend, so entry k has at least the first code point and k.
 -- Assumes nothing.
-use Prim.Native.Nat.{_≤_, _<_}
 use native.Mathlib.Omega.{arith}
 use borrow.Author.Needs.{needs}
-use Rattle.table.specs.Table.{entryCount, codeAt}
 use Rattle.table.proofs.Form.{ascending-from}
 use Rattle.table.proofs.within_reach.Statement.{statement}
 use Rattle.table.proofs.within_reach.Tie as tie

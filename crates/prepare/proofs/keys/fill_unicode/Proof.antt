@@ -1,7 +1,6 @@
 -- `prepare::keys::fill_unicode` meets its contract: a valid text's key has room, and an invalid text is its own key.
 -- Assumes nothing.
-use mathlib.Core.Path.{_≡_, sym, _∙_}
-use mathlib.Core.Bool.{true, false}
+use mathlib.Core.Path.{sym, _∙_}
 use native.Mathlib.Omega.{arith}
 use borrow.Author.Needs.{needs}
 use Rattle.table.specs.Table.{mappingOf}

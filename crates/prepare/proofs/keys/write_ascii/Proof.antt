@@ -5,7 +5,7 @@ use Prim.Native.Nat.{_-_}
 use native.Mathlib.Omega.{arith}
 use borrow.Author.Needs.{needs}
 use lib.ListN.{length}
-use Rattle.prepare.proofs.Walks.{Raising, raising-start, raising-more, raising-done, raising-length}
+use Rattle.prepare.proofs.Raising.{Raising, raising-start, raising-more, raising-done, raising-length}
 use Rattle.prepare.proofs.keys.write_ascii.Statement.{statement}
 use Rattle.prepare.proofs.keys.write_ascii.Tie as tie
 
