@@ -1,0 +1,127 @@
+-- What the statements of the three demands speak of beside the definitions that the contracts cite: the checks of a call in a
+-- row and the first that applies, the order of keys, a hit, a table that calls of the builder have grown, a prepared text, bounds.
+-- Assumes nothing.
+use mathlib.Core.Path.{_≡_}
+use Prim.Native.Nat.{ℕ, _+_, _*_, _≤_, _<_}
+use mathlib.Core.Logic.{_⊎_}
+use mathlib.Core.Bool.{true}
+use mathlib.Core.Option.{Option, none, some}
+use mathlib.Core.List.{List, [], _∷_, _++_}
+use lib.ListN.{length, take, drop, replicate}
+use Rattle.terms.specs.Lists.{lowest}
+use Rattle.terms.specs.Refusals.{refusal, first, Told, refused, given}
+use Rattle.terms.specs.declared.Refusal.{Refusal}
+use Rattle.table.specs.Mapping.{Mapping}
+use Rattle.table.specs.Table.{entryCount, refusedAt, formChecks, mappingOf}
+use Rattle.utf8.specs.Utf8.{Character}
+use Rattle.decompose.specs.Steps.{stepsKey, stepsLookups}
+use Rattle.decompose.specs.TableCheck.{faultyLevel}
+use Rattle.prepare.specs.Keys.{prepared, keyOf}
+use Rattle.prepare.specs.Calls.{Lent, collationCheck, lengthCheck, lengthChecks, tableUnder, roomCheck}
+use Rattle.prepare.specs.declared.Summary.{Summary}
+use Rattle.search.specs.Covering.{span}
+use Rattle.search.specs.Substring.{textRun}
+use Rattle.ucd.specs.Builder.{Built, stateTold, Added}
+use Rattle.ucd.specs.Promises.{built}
+use Rattle.ucd.specs.declared.Line.{Line}
+
+-- ---- refusals
+
+-- an answer in the paper's numbers is no refusal
+abbrev pub Given : Told → Type 0
+Given (refused x) = ⊥
+Given (given values) = Unit {0}
+
+-- "the first that applies is given": a check of the row gives x, and those before it give nothing
+pub record FirstApplies (checks : List (Option Refusal)) (x : Refusal) : Type 0 where
+  pub passed : ℕ
+  pub rest : List (Option Refusal)
+  pub row : checks ≡ replicate passed none ++ some x ∷ rest
+
+-- the checks of a table: 3, 4, 5, 6, 7
+abbrev pub tableChecks : List ℕ → List ℕ → List (Option Refusal)
+tableChecks es pool = formChecks es pool ++ refusedAt 7 (lowest (faultyLevel es pool) (entryCount es)) ∷ []
+
+-- the checks of preparing a text: 1, 2, 3 to 7 under collation 3, 8
+abbrev pub prepareChecks : ℕ → List ℕ → List ℕ → List ℕ → List ℕ → List (Option Refusal)
+prepareChecks k text es pool buffer =
+    collationCheck k
+    ∷ lengthCheck 1 (length text)
+    ∷ tableUnder k es pool
+    ∷ roomCheck 1 (length buffer) (prepared k (mappingOf es pool) text)
+    ∷ []
+
+-- the checks of a comparing call: 1, 2 (first text, then second), 3 to 7 under collation 3, 8 (first key, then second)
+abbrev pub compareChecks : ℕ → List ℕ → List ℕ → List ℕ → List ℕ → List ℕ → List ℕ → List (Option Refusal)
+compareChecks k s t es pool sBuffer tBuffer =
+    collationCheck k
+    ∷ lengthCheck 1 (length s)
+    ∷ lengthCheck 2 (length t)
+    ∷ tableUnder k es pool
+    ∷ roomCheck 1 (length sBuffer) (prepared k (mappingOf es pool) s)
+    ∷ roomCheck 2 (length tBuffer) (prepared k (mappingOf es pool) t)
+    ∷ []
+
+-- 1 to 7 of a call on texts, each with its buffer
+abbrev pub oneToSeven : ℕ → List Lent → List ℕ → List ℕ → Option Refusal
+oneToSeven k ls es pool = first (collationCheck k ∷ lengthChecks 1 ls ∷ tableUnder k es pool ∷ [])
+
+-- a number of a collation
+abbrev pub Collation : ℕ → Type 0
+Collation k = (k ≡ 1) ⊎ ((k ≡ 2) ⊎ (k ≡ 3))
+
+-- ---- keys and their order
+
+-- the key of a text under a collation, over the lent table
+abbrev pub keyOver : ℕ → List ℕ → List ℕ → List ℕ → List ℕ
+keyOver k es pool t = keyOf k (mappingOf es pool) t
+
+-- "octet by octet, unsigned; a proper prefix is less": one key precedes another
+pub data Precedes : List ℕ → List ℕ → Type 0 where
+  proper-prefix : {b : ℕ} {ys : List ℕ} → Precedes [] (b ∷ ys)
+  lower : {a b : ℕ} {xs ys : List ℕ} → a < b → Precedes (a ∷ xs) (b ∷ ys)
+  later : {a : ℕ} {xs ys : List ℕ} → Precedes xs ys → Precedes (a ∷ xs) (a ∷ ys)
+
+-- ---- substring
+
+-- the needle stands in the hay from place i on
+abbrev pub Stands : List ℕ → List ℕ → ℕ → Type 0
+Stands needle hay i = take (length needle) (drop i hay) ≡ needle
+
+-- "the first occurrence in the key": the key of the text s stands in that of the text t from octet a up to b, first there, and
+-- c up to d is the run of t for it
+pub record Hit (k : ℕ) (m : Mapping) (s t : List ℕ) (a b c d : ℕ) : Type 0 where
+  pub stands : Stands (keyOf k m s) (keyOf k m t) a
+  pub nowhere-lower : (i : ℕ) → i < a → Stands (keyOf k m s) (keyOf k m t) i → ⊥
+  pub upto : b ≡ a + length (keyOf k m s)
+  pub run : span c d ≡ textRun k m t (span a b)
+
+-- ---- the builder
+
+-- calls of `add_line` with these lines in turn took the state and slices from the one to the other, "with nothing altered between
+-- calls"
+pub data Grows : Built → List (List ℕ) → Built → Type 0 where
+  start : {b : Built} → Grows b [] b
+  call : {b c : Built} {line : List ℕ} {lines : List (List ℕ)} {r : Line} {es pool : List ℕ}
+      → Added b line r es pool
+      → Grows (built (stateTold r) es pool) lines c
+      → Grows b (line ∷ lines) c
+
+-- ---- preparation
+
+-- a valid text's summary and shown key are those of the published steps: "every preparation gives exactly that key and count"
+pub record Exact (m : Mapping) (chs : List Character) (s : Summary) (shown : List ℕ) : Type 0 where
+  pub valid : s .valid ≡ true
+  pub count : s .lookups ≡ stepsLookups m chs
+  pub size : s .«key_length» ≡ length (stepsKey m chs)
+  pub key : shown ≡ stepsKey m chs
+
+-- a refusal for a buffer that is too short: "one refused for its buffer names that key's length"
+pub record Short (m : Mapping) (chs : List Character) (buffer : List ℕ) (x : Refusal) : Type 0 where
+  pub names : x ≡ refusal 8 1 (length (stepsKey m chs))
+  pub shorter : length buffer < length (stepsKey m chs)
+
+-- "at most 258 n lookups and a key of at most 128 n octets": of the published steps on n characters
+pub record Bounds (m : Mapping) (chs : List Character) : Type 0 where
+  pub lookups : stepsLookups m chs ≤ 258 * length chs
+  pub octets : length (stepsKey m chs) ≤ 128 * length chs
