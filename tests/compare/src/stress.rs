@@ -38,18 +38,22 @@ fn is_valid(table: &Table, text: &[u8]) -> Result<bool, String> {
     Ok(valid)
 }
 
-/// Every sequence of the data file: its number, its verdict, its octets.
+/// Every sequence of the data file, which has its number, its verdict and its octets: alone, and in a line as the published file has it,
+/// between quotation marks and with plain octets around them.
 fn listed(table: &Table) -> Result<u64, String> {
     let mut cases = 0;
     for line in SEQUENCES.lines().filter(|line| !line.is_empty() && !line.starts_with('#')) {
         let words: Vec<&str> = line.split_whitespace().collect();
         let octets: Option<Vec<u8>> = words[2..].iter().map(|digits| u8::from_str_radix(digits, 16).ok()).collect();
         let octets = octets.ok_or_else(|| format!("the data file has a line that can't be read: {line}"))?;
-        let verdict = if is_valid(table, &octets)? { "valid" } else { "invalid" };
-        if verdict != words[1] {
-            return Err(format!("{line}: both programs say {verdict}"));
+        let quoted = [words[0].as_bytes(), b" \"", &octets, b"\"    |"].concat();
+        for text in [octets, quoted] {
+            let verdict = if is_valid(table, &text)? { "valid" } else { "invalid" };
+            if verdict != words[1] {
+                return Err(format!("{line}: both programs say {verdict} of {}", hex(&text)));
+            }
+            cases += 1;
         }
-        cases += 1;
     }
     match cases {
         0 => Err("the data file of UTF-8 sequences is empty".to_string()),
