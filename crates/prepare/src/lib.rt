@@ -1,26 +1,20 @@
 // Keys of the three collations (document 01, "The collations", "Preparation").
 //
-// `prepare`, `prepare_two` and `shown_key` take any arguments at all. The functions below them work on an accepted table, texts
-// within the limit and enough room, and say so.
-pub mod checks;
-pub mod keys;
+// `prepare`, `prepare_two` and `shown_key` take any arguments at all; the `_accepted` ones ask for a table that is accepted already. The
+// functions of the modules work on an accepted table, texts within the limit and enough room, and say so.
+mod checks;
+mod keys;
+mod passed;
 
 use checks::check_call;
-use checks::check_room;
 use checks::check_texts;
-use checks::is_roomy;
-use keys::fill_unicode;
-use keys::size_key;
-use keys::write_key;
+use passed::prepare_ready;
+use passed::prepare_two_ready;
 use terms::Refusal;
 ghost use mathlib.Core.Path.{_≡_};
 ghost use mathlib.Core.Option.{none};
-ghost use Prim.Native.Nat.{_≤_};
-ghost use lib.ListN.{length};
-ghost use Rattle.terms.specs.Refusals.{textMost};
-ghost use Rattle.table.specs.Table.{mappingOf};
 ghost use Rattle.prepare.specs.Calls.{tableUnder, shownAt, shownKey};
-ghost use Rattle.prepare.specs.Promises.{Prepares, PreparesReady, PreparesTwo, PreparesTwoReady};
+ghost use Rattle.prepare.specs.Promises.{Prepares, PreparesTwo};
 
 // Where a key stands: it is the text itself, or stands at the start of the key buffer.
 pub enum KeyPlace {
@@ -177,106 +171,4 @@ pub fn shown_part<'a>(text: &'a [u8], key: &'a [u8], summary: Summary) -> &'a [u
         }
     }
     &text[..0]
-}
-
-// Prepares a text, of a call that passed 1 to 7.
-fn prepare_ready(
-    collation: u32,
-    text: &[u8],
-    entries: &[u32],
-    pool: &[u32],
-    key: &mut [u8],
-) -> Preparation
-    requires { ⌜ length (now text) ≤ textMost ⌝ }
-    requires { ⌜ tableUnder collation (now entries) (now pool) ≡ none ⌝ }
-    ensures { λ r. ⌜ PreparesReady collation (now (text .entry)) (mappingOf (now (entries .entry)) (now (pool .entry))) (now (key .entry)) r (now (key .exit)) ⌝ }
-{
-    if is_roomy(collation, text.len(), key.len()) {
-        return Preparation::Prepared(fill_unicode(text, entries, pool, key));
-    }
-    prepare_sized(collation, text, entries, pool, key)
-}
-
-// The same, the key being sized before it is written.
-fn prepare_sized(
-    collation: u32,
-    text: &[u8],
-    entries: &[u32],
-    pool: &[u32],
-    key: &mut [u8],
-) -> Preparation
-    requires { ⌜ length (now text) ≤ textMost ⌝ }
-    requires { ⌜ tableUnder collation (now entries) (now pool) ≡ none ⌝ }
-    ensures { λ r. ⌜ PreparesReady collation (now (text .entry)) (mappingOf (now (entries .entry)) (now (pool .entry))) (now (key .entry)) r (now (key .exit)) ⌝ }
-{
-    let summary = size_key(collation, text, entries, pool);
-    let room = check_room(1, summary, key.len());
-    match room {
-        Readiness::Ready => {
-            write_key(collation, text, entries, pool, summary, key);
-            Preparation::Prepared(summary)
-        }
-        Readiness::Refused(r) => Preparation::Refused(r),
-    }
-}
-
-// Prepares two texts, of a call that passed 1 to 7.
-fn prepare_two_ready(
-    collation: u32,
-    first: &[u8],
-    second: &[u8],
-    entries: &[u32],
-    pool: &[u32],
-    first_key: &mut [u8],
-    second_key: &mut [u8],
-) -> PreparedPair
-    requires { ⌜ length (now first) ≤ textMost ⌝ }
-    requires { ⌜ length (now second) ≤ textMost ⌝ }
-    requires { ⌜ tableUnder collation (now entries) (now pool) ≡ none ⌝ }
-    ensures { λ r. ⌜ PreparesTwoReady collation (now (first .entry)) (now (second .entry)) (mappingOf (now (entries .entry)) (now (pool .entry))) (now («first_key» .entry)) (now («second_key» .entry)) r (now («first_key» .exit)) (now («second_key» .exit)) ⌝ }
-{
-    if is_roomy(collation, first.len(), first_key.len()) {
-        if is_roomy(collation, second.len(), second_key.len()) {
-            let one = fill_unicode(first, entries, pool, first_key);
-            let two = fill_unicode(second, entries, pool, second_key);
-            return PreparedPair::Both(one, two);
-        }
-    }
-    prepare_two_sized(
-        collation,
-        first,
-        second,
-        entries,
-        pool,
-        first_key,
-        second_key,
-    )
-}
-
-// The same, both keys being sized before the first octet is written.
-fn prepare_two_sized(
-    collation: u32,
-    first: &[u8],
-    second: &[u8],
-    entries: &[u32],
-    pool: &[u32],
-    first_key: &mut [u8],
-    second_key: &mut [u8],
-) -> PreparedPair
-    requires { ⌜ length (now first) ≤ textMost ⌝ }
-    requires { ⌜ length (now second) ≤ textMost ⌝ }
-    requires { ⌜ tableUnder collation (now entries) (now pool) ≡ none ⌝ }
-    ensures { λ r. ⌜ PreparesTwoReady collation (now (first .entry)) (now (second .entry)) (mappingOf (now (entries .entry)) (now (pool .entry))) (now («first_key» .entry)) (now («second_key» .entry)) r (now («first_key» .exit)) (now («second_key» .exit)) ⌝ }
-{
-    let one = size_key(collation, first, entries, pool);
-    let two = size_key(collation, second, entries, pool);
-    if let Readiness::Refused(r) = check_room(1, one, first_key.len()) {
-        return PreparedPair::Refused(r);
-    }
-    if let Readiness::Refused(r) = check_room(2, two, second_key.len()) {
-        return PreparedPair::Refused(r);
-    }
-    write_key(collation, first, entries, pool, one, first_key);
-    write_key(collation, second, entries, pool, two, second_key);
-    PreparedPair::Both(one, two)
 }

@@ -29,6 +29,7 @@ holder m at k (ch ∷ chs) =
     (holder m (at + ch .width) (k - length (expanded m (ch .code))) chs)
 
 -- from the start of one character's place to the end of another's; 0 to 0 where a character is missing
+-- (for a hit none is: `covering-covers` and `hit-covers` of proofs/Cover.antt name both)
 abbrev pub fromTo : Option Span → Option Span → Span
 fromTo none b = span 0 0
 fromTo (some a) none = span 0 0

@@ -18,7 +18,7 @@ use Rattle.terms.specs.Refusals.{entriesMost, check, refusal}
 use Rattle.terms.proofs.Checks.{or-left, or-right, orElse-neither, when-none}
 use Rattle.terms.proofs.Lists.{all-cons}
 use Rattle.terms.proofs.Lowest.{lowest-is, lowest-some, lowest-none, lowest-nowhere}
-use Rattle.table.specs.Table.{entryCount, codeAt, titleAt, startAt, countAt, countsBelow, faultySize, notAbove, faultyCode, faultyEntry, poolLeft, faultyNumber, refusedAt, entryFault, formRefusal, entryOf, titleIn, titleOf, partsIn, partsOf}
+use Rattle.table.specs.Table.{entryCount, codeAt, titleAt, startAt, countAt, faultySize, notAbove, faultyCode, faultyEntry, poolLeft, faultyNumber, refusedAt, entryFault, formRefusal, entryOf, titleIn, titleOf, partsIn, partsOf}
 use Rattle.table.specs.Promises.{Ascending}
 
 -- ---- none of the checks applies
@@ -90,8 +90,7 @@ sound-count es pool i e = ltb-false 32 (countAt es i) (or-left _ _ (or-left _ _ 
 -- and parts that lie in the pool
 pub sound-fits : (es pool : List ℕ) (i : ℕ) → faultyEntry es pool i ≡ false → startAt es i + countAt es i ≤ length pool
 sound-fits es pool i e =
-    let before = ltb 32 (countAt es i) || not (eqb (startAt es i) (countsBelow es i)) in
-    ltb-false (length pool) (startAt es i + countAt es i) (or-right before _ (or-left _ _ e))
+    ltb-false (length pool) (startAt es i + countAt es i) (or-right (ltb 32 (countAt es i) || _) _ (or-left _ _ e))
 
 -- ---- a table of the form
 

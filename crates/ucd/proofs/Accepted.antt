@@ -76,13 +76,17 @@ lineCheck-none : (b : Bool) (n : ℕ) → lineCheck b n ≡ none → b ≡ false
 lineCheck-none false n e = refl
 lineCheck-none true n e = cc
 
--- the last three checks of a line that is not refused
-record Passes (st : LineState) (line es pool : List ℕ) : Type 0 where
+-- the checks 21 to 27 of a line that is not refused
+pub record Passes (st : LineState) (line es pool : List ℕ) : Type 0 where
+  pub semicolons : not (eqb (length (fields line)) 15) ≡ false
+  pub code : not (there (codePoint (field 0 line))) ≡ false
+  pub parts : not (there (decomposition (field 5 line))) ≡ false
+  pub title : not (there (titlecase (codeSaid line) (field 14 line))) ≡ false
   pub scalars : surrogate (said line) ≡ false
   pub order : ltb (codeSaid line) (st .next) ≡ false
   pub room : crowded st (said line) es pool ≡ false
 
-passes : (st : LineState) (line es pool : List ℕ) → lineRefusal st line es pool ≡ none → Passes st line es pool
+pub passes : (st : LineState) (line es pool : List ℕ) → lineRefusal st line es pool ≡ none → Passes st line es pool
 unfolding lineRefusal
 passes st line es pool e =
     let cs : List (Option Refusal) =
@@ -97,6 +101,10 @@ passes st line es pool e =
     ∷ lineCheck (crowded st (said line) es pool) 27
     ∷ [] in
     record {
+      semicolons = lineCheck-none (not (eqb (length (fields line)) 15)) 21 (first-none cs e 2);
+      code = lineCheck-none (not (there (codePoint (field 0 line)))) 22 (first-none cs e 3);
+      parts = lineCheck-none (not (there (decomposition (field 5 line)))) 23 (first-none cs e 4);
+      title = lineCheck-none (not (there (titlecase (codeSaid line) (field 14 line)))) 24 (first-none cs e 5);
       scalars = lineCheck-none (surrogate (said line)) 25 (first-none cs e 6);
       order = lineCheck-none (ltb (codeSaid line) (st .next)) 26 (first-none cs e 7);
       room = lineCheck-none (crowded st (said line) es pool) 27 (first-none cs e 8);

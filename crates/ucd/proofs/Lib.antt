@@ -14,3 +14,4 @@ pub mod Grown
 pub mod BuiltForm
 pub mod Told
 pub mod BuiltMapping
+pub mod Defaults

@@ -17,6 +17,7 @@ use Rattle.terms.proofs.Tests.{both, join, none-some}
 use Rattle.utf8.specs.Utf8.{scalar, encode, encodes, Character, character, decode, before, charactersAfter, characters}
 use Rattle.utf8.proofs.Encode.{encode-width, decode-nil, decode-encode}
 use Rattle.utf8.proofs.Decode.{Decoded, decode-sound}
+use Rattle.utf8.proofs.Defaults.{decode-width}
 
 -- ---- characters
 
@@ -49,12 +50,6 @@ drop-pred : (w a : ℕ) (t : List ℕ) → 1 ≤ w → drop (pred w) t ≡ drop 
 drop-pred zero a t h = absurd (omega arith)
 drop-pred (suc w) a t h = refl
 
--- a decoded character is at least one octet wide
-decode-width : (t : List ℕ) (ch : Character) → decode t ≡ some ch → 1 ≤ ch .width
-decode-width t ch e =
-    let d = decode-sound t ch e in
-    omega (arith, d .wide, encode-width (ch .code) .0)
-
 -- a text whose first character is there: it, and the characters of what follows it
 pub characters-more : (t : List ℕ) (ch : Character)
     → decode t ≡ some ch
@@ -67,7 +62,7 @@ characters-more (a ∷ t) ch e =
     ∙ ap
     (prepend ch)
     (charactersAfter-drop (pred (ch .width)) t
-    ∙ ap characters (drop-pred (ch .width) a t (decode-width (a ∷ t) ch e)))
+    ∙ ap characters (drop-pred (ch .width) a t (decode-width (a ∷ t) ch e .0)))
 
 -- a text with no first character has none
 pub characters-none : (t : List ℕ) → decode t ≡ none → 0 < length t → characters t ≡ none

@@ -1,4 +1,5 @@
 pub mod Characters
 pub mod Decode
+pub mod Defaults
 pub mod Encode
 pub mod Fronts

@@ -1,4 +1,4 @@
--- `prepare::prepare_two_sized` meets its contract: what `check_room` answers of the two sizes is 8, and where it is ready for both
+-- `prepare::passed::prepare_two_sized` meets its contract: what `check_room` answers of the two sizes is 8, and where it is ready for both
 -- each key is written.
 -- Assumes nothing.
 use mathlib.Core.Path.{_≡_, sym, ap, _∙_}
@@ -11,8 +11,8 @@ use Rattle.prepare.specs.Keys.{prepared}
 use Rattle.prepare.specs.Promises.{readinessTold, roomNeeded}
 use Rattle.terms.proofs.Checks.{orElse-first, orElse-second}
 use Rattle.prepare.proofs.Ready.{room-enough, preparesTwoReady-written, preparesTwoReady-refused}
-use Rattle.prepare.proofs.prepare_two_sized.Statement.{statement}
-use Rattle.prepare.proofs.prepare_two_sized.Tie as tie
+use Rattle.prepare.proofs.passed.prepare_two_sized.Statement.{statement}
+use Rattle.prepare.proofs.passed.prepare_two_sized.Tie as tie
 
 -- the function's entry, seen from past the sizing, and the mapping there
 abbrev start : tie.After-size-key2 → tie.Start

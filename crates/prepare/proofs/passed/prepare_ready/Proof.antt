@@ -1,12 +1,12 @@
--- `prepare::prepare_ready` meets its contract: in a roomy buffer 8 does not apply, and the key is filled in; else it is sized first.
+-- `prepare::passed::prepare_ready` meets its contract: in a roomy buffer 8 does not apply, and the key is filled in; else it is sized first.
 -- Assumes nothing.
 use mathlib.Core.Path.{sym, _∙_}
 use lib.ListN.{length}
 use borrow.Author.Needs.{needs}
 use Rattle.prepare.proofs.Collations.{tableUnder-unicode}
 use Rattle.prepare.proofs.Ready.{Roomy, roomy-enough, filled-told, filled-left, filled-room, preparesReady-written}
-use Rattle.prepare.proofs.prepare_ready.Statement.{statement}
-use Rattle.prepare.proofs.prepare_ready.Tie as tie
+use Rattle.prepare.proofs.passed.prepare_ready.Statement.{statement}
+use Rattle.prepare.proofs.passed.prepare_ready.Tie as tie
 
 -- where the buffer is roomy: the function's entry, and that it is
 abbrev start : tie.Then1 → tie.Start

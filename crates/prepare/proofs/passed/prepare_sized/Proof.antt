@@ -1,4 +1,4 @@
--- `prepare::prepare_sized` meets its contract: what `check_room` answers of the size is 8, and where it is ready the key is written.
+-- `prepare::passed::prepare_sized` meets its contract: what `check_room` answers of the size is 8, and where it is ready the key is written.
 -- Assumes nothing.
 use mathlib.Core.Path.{_≡_, sym, ap, _∙_}
 use mathlib.Core.Option.{none}
@@ -8,8 +8,8 @@ use Rattle.table.specs.Table.{mappingOf}
 use Rattle.prepare.specs.Keys.{prepared}
 use Rattle.prepare.specs.Promises.{readinessTold, roomNeeded}
 use Rattle.prepare.proofs.Ready.{room-enough, preparesReady-written, preparesReady-refused}
-use Rattle.prepare.proofs.prepare_sized.Statement.{statement}
-use Rattle.prepare.proofs.prepare_sized.Tie as tie
+use Rattle.prepare.proofs.passed.prepare_sized.Statement.{statement}
+use Rattle.prepare.proofs.passed.prepare_sized.Tie as tie
 
 -- the function's entry, seen from past the sizing
 abbrev start : tie.After-size-key → tie.Start

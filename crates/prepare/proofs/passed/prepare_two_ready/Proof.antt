@@ -1,4 +1,4 @@
--- `prepare::prepare_two_ready` meets its contract: where both buffers are roomy 8 does not apply, and both keys are filled in; else
+-- `prepare::passed::prepare_two_ready` meets its contract: where both buffers are roomy 8 does not apply, and both keys are filled in; else
 -- they are sized first.
 -- Assumes nothing.
 use mathlib.Core.Path.{_≡_, sym, _∙_}
@@ -9,8 +9,8 @@ use Rattle.table.specs.Table.{mappingOf}
 use Rattle.decompose.specs.TableCheck.{tableRefusal}
 use Rattle.prepare.proofs.Collations.{tableUnder-unicode}
 use Rattle.prepare.proofs.Ready.{Roomy, roomy-enough, filled-told, filled-left, filled-room, preparesTwoReady-written}
-use Rattle.prepare.proofs.prepare_two_ready.Statement.{statement}
-use Rattle.prepare.proofs.prepare_two_ready.Tie as tie
+use Rattle.prepare.proofs.passed.prepare_two_ready.Statement.{statement}
+use Rattle.prepare.proofs.passed.prepare_two_ready.Tie as tie
 
 -- where both buffers are roomy: the function's entry, and that they are
 abbrev start : tie.Then2 → tie.Start

@@ -1,0 +1,37 @@
+-- Where a definition of the crate has a default, it is never reached where a contract cites it: the levels left run out for no
+-- code point that has a level of at most so many, and so for none of an accepted table.
+-- Assumes nothing.
+use mathlib.Core.Path.{_≡_}
+use Prim.Native.Nat.{ℕ, _≤_}
+use mathlib.Core.Option.{none}
+use mathlib.Core.List.{List}
+use Rattle.terms.specs.Refusals.{levelsMost}
+use Rattle.table.specs.Mapping.{Mapping}
+use Rattle.table.specs.Table.{mappingOf}
+use Rattle.decompose.specs.Levels.{Level, full, asks}
+use Rattle.decompose.specs.TableCheck.{tableRefusal}
+use Rattle.decompose.proofs.Levels.{level→within, full-same, asks-same}
+use Rattle.decompose.proofs.Walk.{bounded-unfolds}
+use Rattle.decompose.proofs.Demand3.{accepted-all}
+
+module _ (m : Mapping) {c l : ℕ} (level : Level m c l) (n k : ℕ) (enough : l ≤ n) (more : n ≤ k) where
+  -- more levels than a code point's level change nothing of its full decomposition
+  pub level-full : full m k c ≡ full m n c
+  level-full = full-same m n k c (level→within m level n enough) more
+
+  -- nor of its asks
+  pub level-asks : asks m k c ≡ asks m n c
+  level-asks = asks-same m n k c (level→within m level n enough) more
+
+module _ (es pool : List ℕ) (e : tableRefusal es pool ≡ none) (k : ℕ) (more : levelsMost ≤ k) (c : ℕ) where
+  -- the number 8 cuts nothing off in an accepted table: more levels change nothing of a full decomposition
+  pub accepted-full-same : full (mappingOf es pool) k c ≡ full (mappingOf es pool) levelsMost c
+  accepted-full-same =
+      let m = mappingOf es pool in
+      full-same m levelsMost k c (bounded-unfolds m c (accepted-all es pool e c) .level) more
+
+  -- nor of the asks
+  pub accepted-asks-same : asks (mappingOf es pool) k c ≡ asks (mappingOf es pool) levelsMost c
+  accepted-asks-same =
+      let m = mappingOf es pool in
+      asks-same m levelsMost k c (bounded-unfolds m c (accepted-all es pool e c) .level) more

@@ -1,0 +1,52 @@
+-- Where a definition of the crate has a default, it is never reached where a contract cites it.
+-- Assumes nothing.
+use mathlib.Core.Path.{_≡_, refl}
+use Prim.Native.Nat.{ℕ, suc, _<_}
+use native.Mathlib.Omega.{arith}
+use mathlib.Core.Bool.{true, not}
+use mathlib.Core.Option.{Option, none, some}
+use mathlib.Core.List.{List, _∷_, _++_}
+use lib.Dec.{ltb}
+use lib.ListN.{length, take, drop, getD}
+use lib.Seq.{split-at}
+use borrow.Author.Tests.{eqb-true, not-false}
+use Rattle.terms.specs.Lists.{there, orElse}
+use Rattle.terms.specs.Refusals.{check, refusal}
+use Rattle.terms.proofs.Checks.{orElse-neither, when-none}
+use Rattle.terms.proofs.Lowest.{lowest-some}
+use Rattle.pairing.specs.Pairing.{pairMost, isTab, tabOf, firstText, secondText, pairRefusal}
+
+-- a line is cut at its first tab: what stands before it is the first text, and what stands after it the second
+pub record CutAtTab (line : List ℕ) : Type 0 where
+  pub at : ℕ
+  pub tab : tabOf line ≡ some at
+  pub within : at < length line
+  pub first : firstText line ≡ take at line
+  pub second : secondText line ≡ drop (suc at) line
+  pub whole : line ≡ firstText line ++ (0x09 ∷ secondText line)
+
+-- a line that 2 and 9 don't refuse has a tab
+tab-there : (line : List ℕ) → pairRefusal line ≡ none → there (tabOf line) ≡ true
+tab-there line e =
+    let long = check (ltb pairMost (length line)) 2 0 0 in
+    let tabless = check (not (there (tabOf line))) 9 0 0 in
+    let passed = orElse-neither tabless none (orElse-neither long (orElse tabless none) e .1) .0 in
+    not-false _ (when-none (not (there (tabOf line))) (refusal 9 0 0) passed)
+
+-- and is cut there
+pub pair-cut : (line : List ℕ) → pairRefusal line ≡ none → CutAtTab line
+pair-cut line e = go (tabOf line) refl (tab-there line e)
+  where
+    go : (o : Option ℕ) → tabOf line ≡ o → there o ≡ true → CutAtTab line
+    go none q h = absurd (let z : _≡_ {A = ℕ} 0 1 = cc in omega arith)
+    go (some i) q h =
+        let found = lowest-some (isTab line) (length line) i q in
+        let octet : getD line i 0 ≡ 0x09 = eqb-true (getD line i 0) 0x09 (found .holds) in
+        record {
+          at = i;
+          tab = q;
+          within = found .below;
+          first = rw q;
+          second = rw q;
+          whole = rw q (rw octet at (split-at line i 0 (found .below)));
+        }
