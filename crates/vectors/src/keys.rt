@@ -1,4 +1,4 @@
-// Keys over table T of document 01: its examples, the edges of the limits, and the ways it has been got wrong.
+// Keys over table T of document 01: its examples, and the edges of buffers and texts.
 use super::print::say;
 use super::print::say_number;
 use super::print::say_octets;
@@ -22,13 +22,9 @@ pub fn run() {
     key(2, b"az", 2);
     key(2, b"az", 1);
     key(1, b"az", 0);
-    // Refusals.
-    key(0, b"az", 6);
-    key(4, b"az", 6);
+    // The longest text, and one octet more.
     size(3, &long[..4096]);
     size(3, &long);
-    size(1, &long);
-    key_over_self(b"A");
 }
 
 // The key under each collation.
@@ -71,17 +67,6 @@ fn size(collation: u32, text: &[u8]) {
     say_number(collation as u64);
     say_number(text.len() as u64);
     let answer = prepare::prepare(collation, text, &entries, &pool, &mut buffer);
-    say_preparation(answer);
-    say(b"\n");
-}
-
-// A text under a table that is refused.
-fn key_over_self(text: &[u8]) {
-    let entries = [0x41, 0x41, 0, 1u32];
-    let pool = [0x41u32];
-    let mut buffer = [0u8; 16];
-    say(b"key over 0041 into itself");
-    let answer = prepare::prepare(3, text, &entries, &pool, &mut buffer);
     say_preparation(answer);
     say(b"\n");
 }

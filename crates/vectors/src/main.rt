@@ -1,5 +1,5 @@
-// Runs the checked examples of document 01 that are no theorems, the edges of the refusals, and hostile tables of the largest
-// size. What they must print is the file stdout beside this folder.
+// Runs the checked examples of document 01, the ways it has been got wrong, and hostile tables of the largest size. What they must
+// print is the file stdout beside this folder. (The edges of every refusal are run by tests/compare, beside the second program.)
 mod keys;
 mod orders;
 mod print;

@@ -20,7 +20,6 @@ pub fn run() {
     both(3, b"", b"A");
     both(3, b"aa", b"A");
     wrong_ways();
-    refusals();
 }
 
 // Each of these has been got wrong.
@@ -37,16 +36,7 @@ fn wrong_ways() {
     both(3, b"\xEF\xBF\xBF", b"\xF0\x90\x80\x80");
 }
 
-// The key buffers have 8 octets each.
-fn refusals() {
-    both(0, b"a", b"A");
-    both(3, b"aaaaaaaaa", b"a");
-    both(3, b"a", b"aaaaaaaaa");
-    both(3, b"aaaaaaaaa", b"aaaaaaaaaa");
-    both(3, b"\xFFaaaaaaaaa", b"a");
-}
-
-// The order and the equality of two texts.
+// The order and the equality of two texts, with key buffers of 8 octets.
 fn both(collation: u32, first: &[u8], second: &[u8]) {
     let entries = table_t::entries();
     let pool = table_t::pool();
