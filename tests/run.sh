@@ -19,6 +19,7 @@ rt fmt --check || fail 'rt fmt --check: a file is not in the layout (mend with: 
 bash tests/specification.sh || fail 'tests/specification.sh: docs/SPECIFICATION.md and the definitions differ'
 bash tests/library.sh || fail 'tests/library.sh: the library does not answer C or Rust as it should'
 bash tests/second.sh || fail 'tests/second.sh: the library and the second program differ, or could not be compared'
+bash tests/published.sh || fail 'tests/published.sh: the rows of crates/published are not those of the published file'
 bash tests/mistakes.sh || fail 'tests/mistakes.sh: a planted mistake was not found'
 
 [ "$failed" -eq 0 ] || exit 1

@@ -29,8 +29,9 @@ use Rattle.utf8.specs.Utf8.{Character}
 use Rattle.decompose.specs.Levels.{Level, within, full, asks}
 use Rattle.decompose.specs.Steps.{expansion, stepsKey, stepsLookups}
 use Rattle.decompose.specs.TableCheck.{unfolds, faultyLevel, tableRefusal}
-use Rattle.decompose.proofs.Levels.{within→level, level→within, within-whole, full-whole}
+use Rattle.decompose.proofs.Levels.{within→level, level→within}
 use Rattle.decompose.proofs.Bounds.{asks-most, full-most, stepsLookups-most, stepsKey-most, expansion-scalar}
+use Rattle.decompose.proofs.Walk.{unfolds-whole}
 use Rattle.decompose.proofs.Expansion.{partsOf-none}
 
 -- ---- "A table is accepted exactly when it has document 01's form and every code point in it unfolds within 8 levels into at
@@ -108,9 +109,7 @@ module _ (es pool : List ℕ) (e : tableRefusal es pool ≡ none) where
   accepted-all c = go (entryOf es c) refl
     where
       go : (o : Option ℕ) → entryOf es c ≡ o → unfolds (mappingOf es pool) c ≡ true
-      go none q =
-          let whole = partsOf-none es pool c q in
-          rw (within-whole (mappingOf es pool) c whole levelsMost, full-whole (mappingOf es pool) levelsMost c whole)
+      go none q = unfolds-whole (mappingOf es pool) c (partsOf-none es pool c q)
       go (some i) q =
           let found = entryOf-some es c i q in
           rw (found .1) at (accepted-entry es pool e i (found .0))

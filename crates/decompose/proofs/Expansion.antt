@@ -64,3 +64,15 @@ module _ (es pool : List ℕ) (c i : ℕ) (e : entryOf es c ≡ some i) where
       → ExpansionFilled (mappingOf es pool) c slice (record { octets = r .octets; asks = r .asks + 1 }) after
   filled-entry slice r after w =
       record { counted = counted-entry r (w .counted); written = rw (ap (titleIn es c) e) (w .written) }
+
+  -- a titlecase with no parts stays as it is
+  pub expanded-title : partsOf es pool (titleAt es i) ≡ [] → expanded (mappingOf es pool) c ≡ encode (titleAt es i)
+  expanded-title p = expanded-entry ∙ encodes-whole (mappingOf es pool) levelsMost (titleAt es i) p
+
+  -- and is what was written, for two asks
+  pub filled-title : partsOf es pool (titleAt es i) ≡ [] → (slice : List ℕ) (k : ℕ) (after : List ℕ)
+      → Written (titleAt es i) slice k after
+      → ExpansionFilled (mappingOf es pool) c slice (record { octets = k; asks = 2 }) after
+  filled-title p slice k after w =
+      filled-entry slice (record { octets = k; asks = 1 }) after
+      (filled-whole (mappingOf es pool) levelsMost (titleAt es i) p slice k after w)

@@ -9,7 +9,7 @@ use lib.ListN.{length, getD, take, drop, length-append, length-drop}
 use lib.Seq.{take-all}
 use Rattle.terms.specs.Lists.{each, total, over}
 use Rattle.terms.proofs.Lists.{each-append, each-take-more, each-take-drop, total-take-more, total-take}
-use Rattle.terms.proofs.Parts.{length-over, over-append}
+use Rattle.terms.proofs.Parts.{take-drop, put-back, length-over, over-append}
 use Rattle.table.specs.Mapping.{Mapping}
 use Rattle.utf8.specs.Utf8.{encode, encodes}
 use Rattle.decompose.specs.Levels.{full, asks}
@@ -113,6 +113,15 @@ writing-more m n ps slice o a i r now after w l part =
           rw (part .written, w .written, w .sized .octets, encodes-more m n ps i l)
           (over-append first next slice);
     }
+
+-- the same, as that part of the slice is lent and put back
+pub writing-lent : (m : Mapping) (n : ℕ) (ps slice : List ℕ) (o a i : ℕ) (r : Unfolded) (now after : List ℕ)
+    → Writing m n ps slice o a i now
+    → i < length ps
+    → Filled (full m n (getD ps i 0)) (asks m n (getD ps i 0)) (take (length now - o) (drop o now)) r after
+    → Writing m n ps slice (o + r .octets) (a + r .asks) (i + 1) (take o now ++ (after ++ drop (length now - o) (drop o now)))
+writing-lent m n ps slice o a i r now after w l part =
+    rw (put-back o now after) (writing-more m n ps slice o a i r now after w l (rw (take-drop o now) at part))
 
 -- every part was written: the code point is
 pub writing-done : (m : Mapping) (n c : ℕ) (ps slice : List ℕ) (o a i : ℕ) (after : List ℕ) → 1 ≤ n → Split m c ps

@@ -35,6 +35,10 @@ parts-none m c (p ∷ ps) e h = absurd (omega arith)
 pub measured-whole : (m : Mapping) (n room c : ℕ) → m .parts c ≡ [] → measured m n room c ≡ when (leb 1 room) 1
 measured-whole m n room c e = rw (within-whole m c e n, full-whole m n c e)
 
+-- it passes 7
+pub unfolds-whole : (m : Mapping) (c : ℕ) → m .parts c ≡ [] → unfolds m c ≡ true
+unfolds-whole m c e = rw (within-whole m c e levelsMost, full-whole m levelsMost c e)
+
 -- its octets
 pub encodes-whole : (m : Mapping) (n c : ℕ) → m .parts c ≡ [] → encodes (full m n c) ≡ encode c
 unfolding each

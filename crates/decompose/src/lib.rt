@@ -11,14 +11,14 @@ use terms::CodePoint;
 ghost use mathlib.Core.Path.{_≡_};
 ghost use mathlib.Core.Bool.{true};
 ghost use mathlib.Core.List.{[]};
-ghost use mathlib.Core.Option.{none};
-ghost use Prim.Native.Nat.{_≤_};
+ghost use mathlib.Core.Option.{none, some};
+ghost use Prim.Native.Nat.{_<_, _≤_};
 ghost use lib.ListN.{length};
 ghost use Rattle.terms.specs.CodePoints.{scalar};
 ghost use Rattle.terms.specs.Lists.{lowest};
 ghost use Rattle.terms.specs.Refusals.{answer};
 ghost use Rattle.utf8.specs.Utf8.{encodes};
-ghost use Rattle.table.specs.Table.{entryCount, refusedAt, formRefusal, mappingOf};
+ghost use Rattle.table.specs.Table.{entryCount, titleAt, refusedAt, formRefusal, entryOf, partsOf, mappingOf};
 ghost use Rattle.table.specs.Promises.{checkTold};
 ghost use Rattle.decompose.specs.Levels.{full};
 ghost use Rattle.decompose.specs.Steps.{expanded};
@@ -62,7 +62,12 @@ pub fn size_expansion(c: CodePoint, entries: &[u32], pool: &[u32]) -> Unfolded
         };
     };
     let title = CodePoint(entries[i * 4 + 1]);
-    let unfolded = size_unfolded(terms::LEVELS_MOST, title, entries, pool);
+    let parts = title_parts(c, i, entries, pool);
+    if parts.len() == 0 {
+        let octets = utf8::octet_count(title);
+        return Unfolded { octets, asks: 2 };
+    }
+    let unfolded = size_unfolded(terms::LEVELS_MOST, title, parts, entries, pool);
     Unfolded {
         octets: unfolded.octets,
         asks: unfolded.asks + 1,
@@ -81,11 +86,29 @@ pub fn write_expansion(c: CodePoint, entries: &[u32], pool: &[u32], out: &mut [u
         return Unfolded { octets, asks: 2 };
     };
     let title = CodePoint(entries[i * 4 + 1]);
-    let unfolded = write_unfolded(terms::LEVELS_MOST, title, entries, pool, out);
+    let parts = title_parts(c, i, entries, pool);
+    if parts.len() == 0 {
+        let octets = utf8::write_character(title, out);
+        return Unfolded { octets, asks: 2 };
+    }
+    let unfolded = write_unfolded(terms::LEVELS_MOST, title, parts, entries, pool, out);
     Unfolded {
         octets: unfolded.octets,
         asks: unfolded.asks + 1,
     }
+}
+
+// The decomposition of the titlecase of a code point's entry: what the entry itself says, if that is the code point.
+fn title_parts<'a>(c: CodePoint, i: usize, entries: &[u32], pool: &'a [u32]) -> &'a [u32]
+    requires { ⌜ formRefusal (now entries) (now pool) ≡ none ⌝ }
+    requires { ⌜ entryOf (now entries) (c .0) ≡ some i ⌝ }
+    ensures { λ r. ⌜ now r ≡ partsOf (now (entries .entry)) (now (pool .entry)) (titleAt (now (entries .entry)) i) ⌝ }
+{
+    let title = entries[i * 4 + 1];
+    if title == c.0 {
+        return table::parts_at(entries, pool, i);
+    }
+    table::parts_of(entries, pool, CodePoint(title))
 }
 
 // Whether 7 refuses a table of the form.
@@ -95,58 +118,63 @@ fn check_levels(entries: &[u32], pool: &[u32]) -> TableCheck
 {
     let mut i = 0;
     while i < entries.len() / 4 {
-        let measurement = measure(
-            terms::LEVELS_MOST,
-            CodePoint(entries[i * 4]),
-            terms::FULL_MOST,
-            entries,
-            pool,
-        );
-        if let Measurement::TooMuch = measurement {
-            return table::refused_at(terms::REFUSED_LEVEL, i);
+        let parts = table::parts_at(entries, pool, i);
+        // A code point with no parts unfolds into itself.
+        if parts.len() != 0 {
+            let measurement = measure(
+                terms::LEVELS_MOST,
+                CodePoint(entries[i * 4]),
+                parts,
+                terms::FULL_MOST,
+                entries,
+                pool,
+            );
+            if let Measurement::TooMuch = measurement {
+                return table::refused_at(terms::REFUSED_LEVEL, i);
+            }
         }
         i += 1;
     }
     TableCheck::Accepted
 }
 
-// How many code points a code point unfolds into, if within the levels left and into at most `room`.
+// How many code points a code point that has these parts unfolds into, if within the levels left and into at most `room`.
 fn measure(
     levels_left: usize,
     c: CodePoint,
+    parts: &[u32],
     room: usize,
     entries: &[u32],
     pool: &[u32],
 ) -> Measurement
     requires { ⌜ formRefusal (now entries) (now pool) ≡ none ⌝ }
+    requires { ⌜ now parts ≡ partsOf (now entries) (now pool) (c .0) ⌝ }
+    requires { ⌜ 0 < length (now parts) ⌝ }
     ensures { λ r. ⌜ measurementTold r ≡ measured (mappingOf (now (entries .entry)) (now (pool .entry))) «levels_left» room (c .0) ⌝ }
 {
-    let parts = table::parts_of(entries, pool, c);
-    if parts.len() == 0 {
-        if room == 0 {
-            return Measurement::TooMuch;
-        }
-        return Measurement::Fits(1);
-    }
     if levels_left == 0 {
         return Measurement::TooMuch;
     }
     let mut total = 0;
     let mut i = 0;
     while i < parts.len() {
-        let part = measure(
-            levels_left - 1,
-            CodePoint(parts[i]),
-            room - total,
-            entries,
-            pool,
-        );
-        match part {
-            Measurement::Fits(n) => {
-                total += n;
-            }
-            Measurement::TooMuch => {
+        let part = CodePoint(parts[i]);
+        let inner = table::parts_of(entries, pool, part);
+        // Most parts are whole, and a call costs more than counting one.
+        if inner.len() == 0 {
+            if total == room {
                 return Measurement::TooMuch;
+            }
+            total += 1;
+        } else {
+            let measurement = measure(levels_left - 1, part, inner, room - total, entries, pool);
+            match measurement {
+                Measurement::Fits(n) => {
+                    total += n;
+                }
+                Measurement::TooMuch => {
+                    return Measurement::TooMuch;
+                }
             }
         }
         i += 1;
@@ -154,63 +182,80 @@ fn measure(
     Measurement::Fits(total)
 }
 
-// The octets of a code point's full decomposition, and the asks of its unfolding.
-fn size_unfolded(levels_left: usize, c: CodePoint, entries: &[u32], pool: &[u32]) -> Unfolded
+// The octets of the full decomposition of a code point that has these parts, and the asks of its unfolding.
+fn size_unfolded(
+    levels_left: usize,
+    c: CodePoint,
+    parts: &[u32],
+    entries: &[u32],
+    pool: &[u32],
+) -> Unfolded
     requires { ⌜ formRefusal (now entries) (now pool) ≡ none ⌝ }
+    requires { ⌜ now parts ≡ partsOf (now entries) (now pool) (c .0) ⌝ }
+    requires { ⌜ 0 < length (now parts) ⌝ }
     requires { ⌜ Bounded (mappingOf (now entries) (now pool)) «levels_left» (c .0) ⌝ }
     ensures { λ r. ⌜ FullCounted (mappingOf (now (entries .entry)) (now (pool .entry))) «levels_left» (c .0) r ⌝ }
 {
-    let parts = table::parts_of(entries, pool, c);
-    if parts.len() == 0 {
-        return Unfolded {
-            octets: utf8::octet_count(c),
-            asks: 1,
-        };
-    }
     let mut octets = 0;
     let mut asks: u64 = 1;
     let mut i = 0;
     while i < parts.len() {
-        let part = size_unfolded(levels_left - 1, CodePoint(parts[i]), entries, pool);
-        octets += part.octets;
-        asks += part.asks;
+        let part = CodePoint(parts[i]);
+        let inner = table::parts_of(entries, pool, part);
+        // Most parts are whole, and a call costs more than counting one.
+        if inner.len() == 0 {
+            octets += utf8::octet_count(part);
+            asks += 1;
+        } else {
+            let sized = size_unfolded(levels_left - 1, part, inner, entries, pool);
+            octets += sized.octets;
+            asks += sized.asks;
+        }
         i += 1;
     }
     Unfolded { octets, asks }
 }
 
-// Writes a code point's full decomposition at the start of a slice that has room for it.
+// Writes the full decomposition of a code point that has these parts, at the start of a slice that has room for it.
 fn write_unfolded(
     levels_left: usize,
     c: CodePoint,
+    parts: &[u32],
     entries: &[u32],
     pool: &[u32],
     out: &mut [u8],
 ) -> Unfolded
     requires { ⌜ formRefusal (now entries) (now pool) ≡ none ⌝ }
+    requires { ⌜ now parts ≡ partsOf (now entries) (now pool) (c .0) ⌝ }
+    requires { ⌜ 0 < length (now parts) ⌝ }
     requires { ⌜ scalar (c .0) ≡ true ⌝ }
     requires { ⌜ Bounded (mappingOf (now entries) (now pool)) «levels_left» (c .0) ⌝ }
     requires { ⌜ length (encodes (full (mappingOf (now entries) (now pool)) «levels_left» (c .0))) ≤ length (now out) ⌝ }
     ensures { λ r. ⌜ FullFilled (mappingOf (now (entries .entry)) (now (pool .entry))) «levels_left» (c .0) (now (out .entry)) r (now (out .exit)) ⌝ }
 {
-    let parts = table::parts_of(entries, pool, c);
-    if parts.len() == 0 {
-        let octets = utf8::write_character(c, out);
-        return Unfolded { octets, asks: 1 };
-    }
     let mut at = 0;
     let mut asks: u64 = 1;
     let mut i = 0;
     while i < parts.len() {
-        let part = write_unfolded(
-            levels_left - 1,
-            CodePoint(parts[i]),
-            entries,
-            pool,
-            &mut out[at..],
-        );
-        at += part.octets;
-        asks += part.asks;
+        let part = CodePoint(parts[i]);
+        let inner = table::parts_of(entries, pool, part);
+        // Most parts are whole, and a call costs more than writing one.
+        if inner.len() == 0 {
+            let octets = utf8::write_character(part, &mut out[at..]);
+            at += octets;
+            asks += 1;
+        } else {
+            let written = write_unfolded(
+                levels_left - 1,
+                part,
+                inner,
+                entries,
+                pool,
+                &mut out[at..],
+            );
+            at += written.octets;
+            asks += written.asks;
+        }
         i += 1;
     }
     Unfolded { octets: at, asks }

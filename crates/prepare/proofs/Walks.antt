@@ -15,7 +15,7 @@ use Rattle.terms.proofs.Parts.{length-over, over-append}
 use Rattle.table.specs.Mapping.{Mapping}
 use Rattle.utf8.specs.Utf8.{Character, decode, characters}
 use Rattle.utf8.proofs.Characters.{prepend, characters-nil, characters-more, characters-none}
-use Rattle.utf8.proofs.Fronts.{decode-fits, there-characters}
+use Rattle.utf8.proofs.Fronts.{decode-fits, there-characters, there-decode}
 use Rattle.decompose.specs.Steps.{expanded, stepsKey, stepsLookups}
 use Rattle.decompose.specs.TableCheck.{unfolds}
 use Rattle.decompose.specs.Promises.{ExpansionCounted, ExpansionFilled}
@@ -190,12 +190,8 @@ module _ (m : Mapping) (t buffer : List ℕ) (at end : ℕ) (after : List ℕ) (
       }
 
   -- a character follows, since the text is valid
-  pub writing-stop : at < length t → decode (drop at t) ≡ none → ⊥
-  writing-stop h e =
-      let missing = characters-stop t at h e in
-      let valid = w .valid in
-      let z : _≡_ {A = ℕ} 0 1 = cc (ap there missing) in
-      omega arith
+  pub writing-next : at < length t → there (decode (drop at t)) ≡ true
+  writing-next h = there-decode (drop at t) (w .valid) (omega (arith, length-drop at t))
 
   module _ (valid : there (characters t) ≡ true) where
     -- every character was written

@@ -128,19 +128,11 @@ fn write_unicode(text: &[u8], entries: &[u32], pool: &[u32], key: &mut [u8]) -> 
     let mut end = 0;
     let mut lookups: u64 = 0;
     while at < text.len() {
-        let reading = utf8::read_character(text, TextPosition(at));
-        match reading {
-            Reading::Character(c, width) => {
-                let written = decompose::write_expansion(c, entries, pool, &mut key[end..]);
-                at += width;
-                end += written.octets;
-                lookups += written.asks;
-            }
-            // Never so: the text is valid.
-            Reading::Malformed => {
-                return kept(text.len());
-            }
-        }
+        let character = utf8::read_valid(text, TextPosition(at));
+        let written = decompose::write_expansion(character.code, entries, pool, &mut key[end..]);
+        at += character.width;
+        end += written.octets;
+        lookups += written.asks;
     }
     Summary {
         valid: true,

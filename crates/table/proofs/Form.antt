@@ -110,10 +110,6 @@ module _ (es pool : List ℕ) (form : formRefusal es pool ≡ none) where
   pub formed-fits : (i : ℕ) → i < entryCount es → startAt es i + countAt es i ≤ length pool
   formed-fits i l = sound-fits es pool i (formed es pool form .entries i l)
 
-  -- and are at most 32
-  pub formed-count : (i : ℕ) → i < entryCount es → countAt es i ≤ 32
-  formed-count i l = sound-count es pool i (formed es pool form .entries i l)
-
   -- the code point of an entry is scalar
   pub formed-code : (i : ℕ) → i < entryCount es → scalar (codeAt es i) ≡ true
   formed-code i l = sound-code es i (formed es pool form .codes i l)
@@ -196,13 +192,3 @@ module _ (es pool : List ℕ) (form : formRefusal es pool ≡ none) where
       go : (o : Option ℕ) → all scalar (partsIn es pool o) ≡ true
       go none = refl
       go (some i) = all-part scalar pool (countAt es i) (startAt es i) (formed-number es pool form)
-
-  -- and at most 32
-  pub formed-parts-most : (c : ℕ) → length (partsOf es pool c) ≤ 32
-  formed-parts-most c = go (entryOf es c) refl
-    where
-      go : (o : Option ℕ) → entryOf es c ≡ o → length (partsIn es pool o) ≤ 32
-      go none e = omega arith
-      go (some i) e =
-          let few = formed-count es pool form i (entryOf-some es c i e .0) in
-          simp (length-take, length-drop) (omega arith)

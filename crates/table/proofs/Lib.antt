@@ -1,3 +1,4 @@
 pub mod Answers
 pub mod Form
+pub mod Search
 pub mod Defaults

@@ -1,6 +1,6 @@
 -- The answers of the crate's functions in the paper's numbers, and what the functions on a table of the form ask for.
 -- Assumes nothing.
-use Prim.Native.Nat.{ℕ, suc, _<_, _≤_}
+use Prim.Native.Nat.{ℕ, suc, _+_, _<_, _≤_}
 use mathlib.Core.Option.{Option, none, some}
 use mathlib.Core.List.{List, []}
 use Rattle.terms.specs.Refusals.{Told, refused, given}
@@ -29,3 +29,10 @@ pub record Reached (es : List ℕ) (c count : ℕ) : Type 0 where
   pub within : count ≤ entryCount es
   pub begin : 0 < count → codeAt es 0 ≤ c
   pub above : (k : ℕ) → count ≤ k → k < entryCount es → c < codeAt es k
+
+-- entry `low` is at or below a code point, and all from `low + size` on are above it
+pub record Among (es : List ℕ) (c low size : ℕ) : Type 0 where
+  pub positive : 0 < size
+  pub within : low + size ≤ entryCount es
+  pub begin : codeAt es low ≤ c
+  pub above : (k : ℕ) → low + size ≤ k → k < entryCount es → c < codeAt es k

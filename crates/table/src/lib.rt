@@ -6,13 +6,16 @@ use terms::Refusal;
 ghost use mathlib.Core.Path.{_≡_};
 ghost use mathlib.Core.Bool.{false};
 ghost use mathlib.Core.List.{[]};
-ghost use mathlib.Core.Option.{none};
+ghost use mathlib.Core.Option.{none, some};
 ghost use Prim.Native.Nat.{_<_, _≤_};
 ghost use lib.ListN.{length};
 ghost use Rattle.terms.specs.Lists.{lowest};
 ghost use Rattle.terms.specs.Refusals.{refusal, answer, entriesMost};
-ghost use Rattle.table.specs.Table.{entryCount, countsBelow, faultySize, faultyCode, faultyEntry, entryFault, faultyNumber, formRefusal, entryOf, partsOf};
-ghost use Rattle.table.specs.Promises.{checkTold, placeTold, Ascending, Reached};
+ghost use Rattle.table.specs.Table.{entryCount, countsBelow, faultySize, faultyCode, faultyEntry, entryFault, faultyNumber, formRefusal, entryOf, partsIn, partsOf};
+ghost use Rattle.table.specs.Promises.{checkTold, placeTold, Ascending, Reached, Among};
+
+// Within how many entries of a guess to look first.
+const NEAR: usize = 64;
 
 // What the check of a table answers.
 pub enum TableCheck {
@@ -59,12 +62,14 @@ pub fn find_entry(entries: &[u32], c: CodePoint) -> Place
     if count == 0 {
         return Place::Nowhere;
     }
-    // Where the code points follow one another without a gap, as a to z do, the furthest within reach is the one.
-    let furthest = count - 1;
-    if entries[furthest * 4] == sought {
-        return Place::At(furthest);
+    // Where the code points follow the first one without a gap, as a to z do, the furthest within reach is the one.
+    if count <= NEAR {
+        let furthest = count - 1;
+        if entries[furthest * 4] == sought {
+            return Place::At(furthest);
+        }
     }
-    find_among(entries, sought, count)
+    find_around(entries, sought, count)
 }
 
 // The decomposition of a code point, as a part of the pool; empty if it has none.
@@ -72,12 +77,27 @@ pub fn parts_of<'a>(entries: &[u32], pool: &'a [u32], c: CodePoint) -> &'a [u32]
     requires { ⌜ formRefusal (now entries) (now pool) ≡ none ⌝ }
     ensures { λ r. ⌜ now r ≡ partsOf (now (entries .entry)) (now (pool .entry)) (c .0) ⌝ }
 {
-    if let Place::At(i) = find_entry(entries, c) {
-        let start = entries[i * 4 + 2] as usize;
-        let end = start + entries[i * 4 + 3] as usize;
-        return &pool[start..end];
+    let sought = c.0;
+    let count = within_reach(entries, sought);
+    // Below the first entry, as the capitals A to Z are, there is nothing to search for.
+    if count == 0 {
+        return &pool[..0];
+    }
+    if let Place::At(i) = find_around(entries, sought, count) {
+        return parts_at(entries, pool, i);
     }
     &pool[..0]
+}
+
+// The decomposition that an entry says, as a part of the pool.
+pub fn parts_at<'a>(entries: &[u32], pool: &'a [u32], i: usize) -> &'a [u32]
+    requires { ⌜ formRefusal (now entries) (now pool) ≡ none ⌝ }
+    requires { ⌜ i < entryCount (now entries) ⌝ }
+    ensures { λ r. ⌜ now r ≡ partsIn (now (entries .entry)) (now (pool .entry)) (some i) ⌝ }
+{
+    let start = entries[i * 4 + 2] as usize;
+    let end = start + entries[i * 4 + 3] as usize;
+    &pool[start..end]
 }
 
 // A refusal that names a place.
@@ -112,26 +132,79 @@ fn within_reach(entries: &[u32], sought: u32) -> usize
     count
 }
 
-// The entry of a code point among the first `count`, the first of which is at or below it. A turn asks one question, not also
-// whether this is the one: names hold the same letters again and again, and their ways are soon foreseen.
-fn find_among(entries: &[u32], sought: u32, count: usize) -> Place
+// The entry of a code point among the first `count`: where the published table has it, or around that place, or anywhere.
+fn find_around(entries: &[u32], sought: u32, count: usize) -> Place
     requires { ⌜ Ascending (now entries) ⌝ }
-    requires { ⌜ Reached (now entries) sought count ⌝ }
-    requires { ⌜ 0 < count ⌝ }
+    requires { ⌜ Among (now entries) sought 0 count ⌝ }
     ensures { λ r. ⌜ placeTold r ≡ entryOf (now (entries .entry)) sought ⌝ }
 {
-    let mut low = 0;
-    let mut size = count;
-    while 1 < size {
-        let half = size / 2;
-        let middle = low + half;
-        if entries[middle * 4] <= sought {
-            low = middle;
-        }
-        size -= half;
+    let guess = published::place_of(sought);
+    if count <= guess {
+        return find_among(entries, sought, 0, count);
     }
-    if entries[low * 4] == sought {
-        return Place::At(low);
+    let there = entries[guess * 4];
+    if there == sought {
+        return Place::At(guess);
+    }
+    if there < sought {
+        return find_after(entries, sought, guess, count - guess);
+    }
+    find_before(entries, sought, guess)
+}
+
+// The entry of a code point among the `size` from `low` on: near `low`, if the entry NEAR places on is above the code point.
+fn find_after(entries: &[u32], sought: u32, low: usize, size: usize) -> Place
+    requires { ⌜ Ascending (now entries) ⌝ }
+    requires { ⌜ Among (now entries) sought low size ⌝ }
+    ensures { λ r. ⌜ placeTold r ≡ entryOf (now (entries .entry)) sought ⌝ }
+{
+    if NEAR < size {
+        let far = low + NEAR;
+        if sought < entries[far * 4] {
+            return find_among(entries, sought, low, NEAR);
+        }
+    }
+    find_among(entries, sought, low, size)
+}
+
+// The entry of a code point among the first `high`: none, if the last of them is below it; near `high`, if the entry NEAR places
+// back is not above it.
+fn find_before(entries: &[u32], sought: u32, high: usize) -> Place
+    requires { ⌜ Ascending (now entries) ⌝ }
+    requires { ⌜ Among (now entries) sought 0 high ⌝ }
+    ensures { λ r. ⌜ placeTold r ≡ entryOf (now (entries .entry)) sought ⌝ }
+{
+    if entries[high * 4 - 4] < sought {
+        return Place::Nowhere;
+    }
+    if NEAR < high {
+        let low = high - NEAR;
+        if entries[low * 4] <= sought {
+            return find_among(entries, sought, low, NEAR);
+        }
+    }
+    find_among(entries, sought, 0, high)
+}
+
+// The entry of a code point among the `size` from `low` on. A turn asks one question, not also whether this is the one: names
+// hold the same letters again and again, and their ways are soon foreseen.
+fn find_among(entries: &[u32], sought: u32, low: usize, size: usize) -> Place
+    requires { ⌜ Ascending (now entries) ⌝ }
+    requires { ⌜ Among (now entries) sought low size ⌝ }
+    ensures { λ r. ⌜ placeTold r ≡ entryOf (now (entries .entry)) sought ⌝ }
+{
+    let mut first = low;
+    let mut left = size;
+    while 1 < left {
+        let half = left / 2;
+        let middle = first + half;
+        if entries[middle * 4] <= sought {
+            first = middle;
+        }
+        left -= half;
+    }
+    if entries[first * 4] == sought {
+        return Place::At(first);
     }
     Place::Nowhere
 }

@@ -201,7 +201,7 @@ decodesThree c t l h s =
     s)
 
 -- a number is its six-bit parts
-sixes : (c : ℕ) → c / 262144 * 262144 + c / 4096 % 64 * 4096 + c / 64 % 64 * 64 + c % 64 ≡ c
+pub sixes : (c : ℕ) → c / 262144 * 262144 + c / 4096 % 64 * 4096 + c / 64 % 64 * 64 + c % 64 ≡ c
 sixes c =
     let p : c / 4096 ≡ c / 64 / 64 = omega arith in
     let q : c / 262144 ≡ c / 4096 / 64 = omega arith in

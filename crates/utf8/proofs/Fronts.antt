@@ -1,7 +1,7 @@
 -- The front of a text by places: what `two`, `three` and `four` say of the octets at 0, 1 and 2; what
 -- a decoded character takes of a text; and octets written at the start of a slice one by one.
 -- Assumes nothing.
-use mathlib.Core.Path.{_≡_, refl, _∙_, ap}
+use mathlib.Core.Path.{_≡_, refl, sym, _∙_, ap}
 use mathlib.Core.Bool.{true, false, _&&_}
 use mathlib.Core.Option.{Option, none, some}
 use mathlib.Core.List.{List, [], _∷_}
@@ -12,7 +12,7 @@ use Rattle.terms.specs.Lists.{there, over}
 use Rattle.utf8.specs.Utf8.{Character, encode, trails, taken, two, three, four, decode, characters}
 use Rattle.utf8.proofs.Encode.{encode-width}
 use Rattle.utf8.proofs.Decode.{decode-sound}
-use Rattle.utf8.proofs.Characters.{prepend, characters-more}
+use Rattle.utf8.proofs.Characters.{prepend, characters-more, characters-none}
 
 -- ---- two, three, four
 
@@ -137,6 +137,14 @@ pub there-characters : (t : List ℕ) (ch : Character)
     → there (characters t) ≡ there (characters (drop (ch .width) t))
 there-characters t ch e =
     ap there (characters-more t ch e) ∙ there-prepend ch (characters (drop (ch .width) t))
+
+-- a character stands at the front of a text that has characters
+pub there-decode : (t : List ℕ) → there (characters t) ≡ true → 0 < length t → there (decode t) ≡ true
+there-decode t v h = go (decode t) refl
+  where
+    go : (o : Option Character) → decode t ≡ o → there o ≡ true
+    go none e = sym (ap there (characters-none t e h)) ∙ v
+    go (some ch) e = refl
 
 -- ---- over
 

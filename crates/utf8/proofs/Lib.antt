@@ -3,3 +3,4 @@ pub mod Decode
 pub mod Defaults
 pub mod Encode
 pub mod Fronts
+pub mod Standing

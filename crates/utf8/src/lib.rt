@@ -1,16 +1,17 @@
 // UTF-8 (RFC 3629): characters out of octets, and code points into octets.
 //
-// Reading asks nothing of the caller: octets that are no UTF-8 are an answer. Writing asks for a code point of at most
-// 10FFFF hex and for room.
+// Reading asks nothing of the caller: octets that are no UTF-8 are an answer. Only read_valid asks that a character stands
+// there. Writing asks for a code point of at most 10FFFF hex and for room.
 use terms::CodePoint;
 use terms::TextPosition;
 ghost use mathlib.Core.Path.{_≡_};
+ghost use mathlib.Core.Bool.{true};
 ghost use Prim.Native.Nat.{_≤_, _<_};
 ghost use mathlib.Core.List.{_∷_};
 ghost use lib.ListN.{length, drop};
 ghost use Rattle.terms.specs.Lists.{there};
 ghost use Rattle.utf8.specs.Utf8.{encode, decode, characters, trails, taken, two, three, four};
-ghost use Rattle.utf8.specs.Promises.{readingTold, Written};
+ghost use Rattle.utf8.specs.Promises.{readingTold, scannedTold, Written};
 
 // What stands at a position of a text.
 pub enum Reading {
@@ -33,6 +34,49 @@ pub fn read_character(text: &[u8], at: TextPosition) -> Reading
         return Reading::Character(CodePoint(a), 1);
     }
     read_longer(a, &text[i + 1..])
+}
+
+// A character that was read: its code point, and how many octets it takes.
+pub struct Scanned {
+    pub code: CodePoint,
+    pub width: usize,
+}
+
+// The character at a position where one stands, as everywhere in a valid text: read without asking again whether it is one.
+pub fn read_valid(text: &[u8], at: TextPosition) -> Scanned
+    requires { ⌜ there (decode (drop (at .0) (now text))) ≡ true ⌝ }
+    ensures { λ r. ⌜ scannedTold r ≡ decode (drop (at .0) (now (text .entry))) ⌝ }
+{
+    let i = at.0;
+    let a = wide(text[i]);
+    if a < 0x80 {
+        return Scanned {
+            code: CodePoint(a),
+            width: 1,
+        };
+    }
+    let b = wide(text[i + 1]) - 0x80;
+    if a < 0xE0 {
+        let code = (a - 0xC0) * 64 + b;
+        return Scanned {
+            code: CodePoint(code),
+            width: 2,
+        };
+    }
+    let c = wide(text[i + 2]) - 0x80;
+    if a < 0xF0 {
+        let code = (a - 0xE0) * 4096 + b * 64 + c;
+        return Scanned {
+            code: CodePoint(code),
+            width: 3,
+        };
+    }
+    let d = wide(text[i + 3]) - 0x80;
+    let code = (a - 0xF0) * 262144 + b * 4096 + c * 64 + d;
+    Scanned {
+        code: CodePoint(code),
+        width: 4,
+    }
 }
 
 // Whether a text is UTF-8 from its start to its end.

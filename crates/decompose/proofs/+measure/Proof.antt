@@ -1,17 +1,18 @@
--- `decompose::measure` meets its contract. It calls itself for each part, one level down; the measure of the recursion is the levels
--- left. The loop's invariant: the parts so far are within the levels left to them and come to `total` code points, for which there
--- is room (`Measuring`). The loop's measure is the number of parts that are left. Assumes nothing.
+-- `decompose::measure` meets its contract. It calls itself for each part that decomposes, one level down; the measure of the
+-- recursion is the levels left. The loop's invariant: the parts so far are within the levels left to them and come to `total` code
+-- points, for which there is room (`Measuring`). The loop's measure is the number of parts that are left. Assumes nothing.
 use Prim.Native.Nat.{ℕ, _+_, _-_, _≤_, _<_}
 use native.Mathlib.Omega.{arith}
 use mathlib.Core.Path.{_≡_, sym, ap, _∙_}
-use mathlib.Core.Option.{some}
+use mathlib.Core.Logic.{⊎-elim}
+use mathlib.Core.Option.{Option, none, some}
+use lib.Dec.{leb}
 use lib.ListN.{length, getD}
 use borrow.Author.Needs.{needs}
 use borrow.Author.Tests.{le-leb, lt-leb}
 use Rattle.terms.specs.Lists.{when}
 use Rattle.table.specs.Mapping.{Mapping}
 use Rattle.table.specs.Table.{mappingOf}
-use Rattle.table.proofs.Form.{formed-parts-most}
 use Rattle.decompose.specs.Promises.{measured, measurementTold}
 use Rattle.decompose.proofs.Walk.{parts-none, measured-whole, Split}
 use Rattle.decompose.proofs.Measuring.{measuredParts, measured-parts, measured-none, Measuring, measuring-start, measuring-more, measuring-done, measuring-stop}
@@ -25,185 +26,207 @@ use Rattle.decompose.proofs.+measure.{statement}
 use Rattle.decompose.proofs.+measure.Tie.{close}
 
 -- the recursion's measure: the levels left
-abbrev μ-measure : Measures 2 kinds.ps ℕ
+abbrev μ-measure : Measures 3 kinds.ps ℕ
 μ-measure κs a = a .0
 
 -- what the function is given at the measure t, and what a call of itself asks below t
-abbrev at : ℕ → In 2 kinds.ps
-at t = and 2 kinds.ps (is 2 kinds.ps μ-measure t) reads.Pre
+abbrev at : ℕ → In 3 kinds.ps
+at t = and 3 kinds.ps (is 3 kinds.ps μ-measure t) reads.Pre
 
-abbrev below : ℕ → In 2 kinds.ps
-below t = and 2 kinds.ps (falls 2 kinds.ps _<_ μ-measure t) reads.Pre
+abbrev below : ℕ → In 3 kinds.ps
+below t = and 3 kinds.ps (falls 3 kinds.ps _<_ μ-measure t) reads.Pre
 
 abbrev claims : ℕ → lts.Claims
 claims t = (parts-of-reads.Asked, parts-of-reads.Learnt, below t, reads.Post)
 
 abbrev Inv-loop : lts.InvT-loop
-Inv-loop levels-left room entries pool parts total₀ i₀ total i =
+Inv-loop levels-left parts room entries pool total₀ i₀ total i =
     Measuring (mappingOf entries pool) (levels-left - 1) parts room total i
 
 abbrev μ-loop : lts.MeasureT-loop
-μ-loop levels-left room entries pool parts total₀ i₀ total i = length parts - i
+μ-loop levels-left parts room entries pool total₀ i₀ total i = length parts - i
 
 -- a need, or a place of the code, at the measure t
-abbrev Of : ℕ → (lts.Claims → In 2 kinds.ps → Out 2 kinds.ps kinds.r → lts.InvT-loop → lts.MeasureT-loop → Type 0) → Type 0
+abbrev Of : ℕ → (lts.Claims → In 3 kinds.ps → Out 3 kinds.ps kinds.r → lts.InvT-loop → lts.MeasureT-loop → Type 0) → Type 0
 Of t F = F (claims t) (at t) reads.Post Inv-loop μ-loop
 
 -- at the function's entry: the mapping of the table
 abbrev mapping : (t : ℕ) → Of t lts.Start → Mapping
 mapping t s = mappingOf (s .args .entries .now) (s .args .pool .now)
 
--- where there are parts: the function's entry, and that they are those of the code point
+-- its parts are those of the code point
+split : (t : ℕ) (s : Of t lts.Start) → Split (mapping t s) (s .args .c .0) (s .args .parts .now)
+split t s = record { parts = s .pre .1 .1 .0; some = λ none. omega (arith, s .pre .1 .1 .1) }
+
+-- where the loop starts: the function's entry, and that a level is left
 abbrev entry : (t : ℕ) → Of t lts.Else1 → Of t lts.Start
 entry t c = c .before .before .before .before
 
-split : (t : ℕ) (c : Of t lts.Else1)
-    → Split (mapping t (entry t c)) (entry t c .args .c .0) (c .before .parts-of .result .now)
-split t c = record { parts = c .before .parts-of .ensures; some = c .if1 .left }
-
--- they are at most 32
-few : (t : ℕ) (c : Of t lts.Else1) → length (c .before .parts-of .result .now) ≤ 32
-few t c =
-    let s = entry t c in
-    rw (c .before .parts-of .ensures)
-    (formed-parts-most (s .args .entries .now) (s .args .pool .now) (s .pre .1) (s .args .c .0))
-
--- where the loop starts: a level is left
-level : (t : ℕ) (c : Of t lts.Else3) → 1 ≤ entry t (c .before) .args .levels-left
-level t c = omega (arith, c .if3 .left)
+level : (t : ℕ) (c : Of t lts.Else1) → 1 ≤ entry t c .args .levels-left
+level t c = omega (arith, c .if1 .left)
 
 -- the measurement of the code point is that of its parts
-parts-decide : (t : ℕ) (c : Of t lts.Else3) → let s = entry t (c .before) in
+parts-decide : (t : ℕ) (c : Of t lts.Else1) → let s = entry t c in
     measured (mapping t s) (s .args .levels-left) (s .args .room) (s .args .c .0)
-    ≡ measuredParts (mapping t s) (s .args .levels-left - 1) (s .args .room) (c .before .before .parts-of .result .now)
+    ≡ measuredParts (mapping t s) (s .args .levels-left - 1) (s .args .room) (s .args .parts .now)
 parts-decide t c =
-    let s = entry t (c .before) in
-    measured-parts (mapping t s) (s .args .levels-left) (s .args .room) (s .args .c .0) _ (level t c) (split t (c .before))
+    let s = entry t c in
+    measured-parts (mapping t s) (s .args .levels-left) (s .args .room) (s .args .c .0) _ (level t c) (split t s)
 
--- where a part fits: the loop's head, and the measurement
-abbrev head : (t : ℕ) → Of t lts.After-part → Of t lts.At-loop
-head t c = c .before .before .before .before .before
+-- where a part was looked up: the loop's head, the function's entry, the room left, and the part's measurement
+abbrev head : (t : ℕ) → Of t lts.After-parts-of → Of t lts.At-loop
+head t c = c .before .before .before
 
-fits : (t : ℕ) (c : Of t lts.After-part)
+abbrev start : (t : ℕ) → Of t lts.After-parts-of → Of t lts.Start
+start t c = entry t (head t c .before)
+
+abbrev left : (t : ℕ) → Of t lts.After-parts-of → ℕ
+left t c = start t c .args .room - head t c .loop .total
+
+abbrev part : (t : ℕ) → Of t lts.After-parts-of → Option ℕ
+part t c =
+    let s = start t c in
+    measured (mapping t s) (s .args .levels-left - 1) (left t c) (getD (s .args .parts .now) (head t c .loop .i) 0)
+
+-- where it fits, one part more is measured
+more : (t : ℕ) (c : Of t lts.After-parts-of) (k : ℕ) → part t c ≡ some k
     → let l = head t c in
-    let s = entry t (l .before .before) in
-    measured (mapping t s) (s .args .levels-left - 1) (s .args .room - l .loop .total)
-    (getD (l .before .before .before .parts-of .result .now) (l .loop .i) 0)
-    ≡ some (c .part .given .0 .0)
-fits t c = sym (c .before .before .measure .ensures) ∙ ap measurementTold (c .part .given .1)
-
--- so one part more is measured
-more : (t : ℕ) (c : Of t lts.After-part)
-    → let l = head t c in
-    let s = entry t (l .before .before) in
-    Measuring (mapping t s) (s .args .levels-left - 1) (l .before .before .before .parts-of .result .now) (s .args .room)
-    (l .loop .total + c .part .given .0 .0)
-    (l .loop .i + 1)
-more t c =
+    let s = start t c in
+    Measuring (mapping t s) (s .args .levels-left - 1) (s .args .parts .now) (s .args .room) (l .loop .total + k) (l .loop .i + 1)
+more t c k fits =
     let l = head t c in
-    let s = entry t (l .before .before) in
-    measuring-more (mapping t s) (s .args .levels-left - 1) (l .before .before .before .parts-of .result .now) (s .args .room)
-    (l .loop .total) (l .loop .i) (c .part .given .0 .0) (l .loop .inv) (c .before .before .before .before .loop-test .taken)
-    (fits t c)
+    let s = start t c in
+    measuring-more (mapping t s) (s .args .levels-left - 1) (s .args .parts .now) (s .args .room)
+    (l .loop .total) (l .loop .i) k (l .loop .inv) (c .before .before .loop-test .taken) fits
 
-parts-of-requires : (t : ℕ) → Of t lts.Need-parts-of-requires
-parts-of-requires t c κs = c .before .before .pre .1
+-- and where it doesn't, the code point is too much
+stop : (t : ℕ) (c : Of t lts.After-parts-of) → part t c ≡ none
+    → let s = start t c in
+    none ≡ measured (mapping t s) (s .args .levels-left) (s .args .room) (s .args .c .0)
+stop t c too-much =
+    let l = head t c in
+    let s = start t c in
+    measuring-stop (mapping t s) (s .args .levels-left - 1) (s .args .parts .now) (s .args .room)
+    (l .loop .total) (l .loop .i) (l .loop .inv) (c .before .before .loop-test .taken) too-much
+    ∙ sym (parts-decide t (l .before))
 
--- no parts, and no room
+-- a part with no parts of its own is one code point
+whole : (t : ℕ) (c : Of t lts.Then2) → part t (c .before) ≡ when (leb 1 (left t (c .before))) 1
+whole t c =
+    let s = start t (c .before) in
+    let p = getD (s .args .parts .now) (head t (c .before) .loop .i) 0 in
+    measured-whole (mapping t s) (s .args .levels-left - 1) (left t (c .before)) p
+    (parts-none (mapping t s) p _ (c .before .parts-of .ensures) (c .if2 .taken))
+
+-- which fits where there is room
+one : (t : ℕ) (c : Of t lts.Else3) → part t (c .before .before) ≡ some 1
+one t c =
+    let looked = c .before .before in
+    whole t (c .before)
+    ∙ ap (λ b. when b 1) (le-leb 1 (left t looked) (omega (arith, c .if3 .left, head t looked .loop .inv .fits)))
+
+-- and another fits if it was measured so
+fits : (t : ℕ) (c : Of t lts.After-measurement) → part t (c .before .before .before .before) ≡ some (c .measurement .given .0 .0)
+fits t c = sym (c .before .before .measure .ensures) ∙ ap measurementTold (c .measurement .given .1)
+
+-- no level left
 returns : (t : ℕ) → Of t lts.Need-returns
 returns t c =
-    let found = c .before .before in
-    let s = found .before .before .before in
-    let none-there = parts-none (mapping t s) (s .args .c .0) _ (found .parts-of .ensures) (c .before .if1 .taken) in
-    sym (measured-whole (mapping t s) (s .args .levels-left) (s .args .room) (s .args .c .0) none-there
-    ∙ ap (λ b. when b 1) (lt-leb 1 (s .args .room) (omega arith)))
-
--- no parts, and room
-returns-2 : (t : ℕ) → Of t lts.Need-returns-2
-returns-2 t c =
-    let found = c .before .before in
-    let s = found .before .before .before in
-    let none-there = parts-none (mapping t s) (s .args .c .0) _ (found .parts-of .ensures) (c .before .if1 .taken) in
-    sym (measured-whole (mapping t s) (s .args .levels-left) (s .args .room) (s .args .c .0) none-there
-    ∙ ap (λ b. when b 1) (le-leb 1 (s .args .room) (omega arith)))
-
--- parts, and no level left
-returns-3 : (t : ℕ) → Of t lts.Need-returns-3
-returns-3 t c =
-    let s = entry t (c .before) in
+    let s = c .before .before .before .before in
     let a = s .args in
-    let none-left : a .levels-left ≡ 0 = c .if3 .taken in
+    let none-left : a .levels-left ≡ 0 = c .if1 .taken in
     sym (ap (λ n. measured (mapping t s) n (a .room) (a .c .0)) none-left
-    ∙ measured-none (mapping t s) (a .room) (a .c .0) _ (split t (c .before)))
+    ∙ measured-none (mapping t s) (a .room) (a .c .0) _ (split t s))
 
 -- before the first part
 loop-holds : (t : ℕ) → Of t lts.Need-loop-holds
 loop-holds t c = measuring-start _ _ _ _
 
--- a level is left
-sub-measure : (t : ℕ) → Of t lts.Need-sub-measure
-sub-measure t c = level t (c .before .before)
-
 -- an index fits
-mul-t16 : (t : ℕ) → Of t lts.Need-mul-t16
-mul-t16 t c = omega (arith, c .loop-test .taken, few t (c .before .before .before))
+mul-t14 : (t : ℕ) → Of t lts.Need-mul-t14
+mul-t14 t c = omega (arith, c .loop-test .taken)
 
-shared-slice-read-t18 : (t : ℕ) → Of t lts.Need-shared-slice-read-t18
-shared-slice-read-t18 t c = c .before .loop-test .taken
+shared-slice-read-t17 : (t : ℕ) → Of t lts.Need-shared-slice-read-t17
+shared-slice-read-t17 t c = c .before .loop-test .taken
 
--- what is measured so far has room
-sub-measure-2 : (t : ℕ) → Of t lts.Need-sub-measure-2
-sub-measure-2 t c = c .before .before .loop .inv .fits
+parts-of-requires : (t : ℕ) → Of t lts.Need-parts-of-requires
+parts-of-requires t c κs = entry t (c .before .before .before) .pre .1 .0
 
--- one level down
-measure-requires : (t : ℕ) → Of t lts.Need-measure-requires
-measure-requires t c κs =
-    let l = c .before .before in
-    let s = entry t (l .before .before) in
-    (omega (arith, level t (l .before), s .pre .0), s .pre .1)
-
-enum-known-part : (t : ℕ) → Of t lts.Need-enum-known-part
-enum-known-part t c = search needs
+-- a whole part, and no room
+returns-2 : (t : ℕ) → Of t lts.Need-returns-2
+returns-2 t c =
+    let looked = c .before .before in
+    stop t looked (whole t (c .before) ∙ ap (λ b. when b 1) (lt-leb 1 (left t looked) (omega (arith, c .if3 .taken))))
 
 -- the sum is at most the room
 add-total : (t : ℕ) → Of t lts.Need-add-total
 add-total t c =
-    let s = entry t (head t (c .before) .before .before) in
-    omega (arith, more t (c .before) .fits, s .fits .room)
+    let looked = c .before .before in
+    omega (arith, more t looked 1 (one t c) .fits, start t looked .fits .room)
+
+-- a level is left
+sub-measure : (t : ℕ) → Of t lts.Need-sub-measure
+sub-measure t c = level t (head t (c .before) .before)
+
+-- what is measured so far has room
+sub-measure-2 : (t : ℕ) → Of t lts.Need-sub-measure-2
+sub-measure-2 t c = head t (c .before) .loop .inv .fits
+
+-- one level down, with the parts that were found
+measure-requires : (t : ℕ) → Of t lts.Need-measure-requires
+measure-requires t c κs =
+    let s = start t (c .before) in (
+      omega (arith, level t (head t (c .before) .before), s .pre .0),
+      (s .pre .1 .0, (c .before .parts-of .ensures, omega (arith, c .if2 .left))),
+    )
+
+enum-known-measurement : (t : ℕ) → Of t lts.Need-enum-known-measurement
+enum-known-measurement t c = search needs
+
+-- the sum is at most the room
+add-total-2 : (t : ℕ) → Of t lts.Need-add-total-2
+add-total-2 t c =
+    let looked = c .before .before .before .before .before in
+    omega (arith, more t looked _ (fits t (c .before)) .fits, start t looked .fits .room)
 
 enum-told : (t : ℕ) → Of t lts.Need-enum-told
 enum-told t c = search needs
 
 -- a part that is too much
-returns-4 : (t : ℕ) → Of t lts.Need-returns-4
-returns-4 t c =
+returns-3 : (t : ℕ) → Of t lts.Need-returns-3
+returns-3 t c =
     let called = c .before .before in
-    let l = called .before .before .before in
-    let s = entry t (l .before .before) in
-    measuring-stop (mapping t s) (s .args .levels-left - 1) (l .before .before .before .parts-of .result .now) (s .args .room)
-    (l .loop .total) (l .loop .i) (l .loop .inv) (called .before .before .loop-test .taken)
-    (sym (called .measure .ensures) ∙ ap measurementTold (c .enum-told .given .1))
-    ∙ sym (parts-decide t (l .before))
+    stop t (called .before .before) (sym (called .measure .ensures) ∙ ap measurementTold (c .enum-told .given .1))
 
 -- an index fits
 add-i : (t : ℕ) → Of t lts.Need-add-i
-add-i t c =
-    let l = head t (c .before) in
-    omega (arith, c .before .before .before .before .before .loop-test .taken, few t (l .before .before))
+add-i t c = omega (arith, c .before .before .before .loop-test .taken)
 
 loop-less : (t : ℕ) → Of t lts.Need-loop-less
-loop-less t c = omega (arith, head t (c .before) .loop .inv .passed, c .before .before .before .before .before .loop-test .taken)
+loop-less t c = omega (arith, c .before .before .before .loop-test .taken)
 
--- one part more
+-- one part more, either way
 loop-again : (t : ℕ) → Of t lts.Need-loop-again
-loop-again t c = more t (c .before)
+loop-again t c =
+    ⊎-elim
+    (λ w.
+    let counted : Of t lts.Else3 = record { before = record { before = c .before; if2 = w .0 }; if3 = w .1 } in
+    rw (w .2) (more t (c .before) 1 (one t counted)))
+    (λ w.
+    let called : Of t lts.After-measure = record { before = record { before = c .before; if2 = w .0 }; measure = w .1 } in
+    let fitted : Of t lts.After-measurement = record {
+      before = record { before = called; match = w .2 };
+      measurement = w .3;
+    } in
+    rw (w .5) (more t (c .before) _ (fits t fitted)))
+    (c .if2 .came)
 
 -- every part was measured
-returns-5 : (t : ℕ) → Of t lts.Need-returns-5
-returns-5 t c =
+returns-4 : (t : ℕ) → Of t lts.Need-returns-4
+returns-4 t c =
     let l = c .before in
-    let s = entry t (l .before .before) in
-    measuring-done (mapping t s) (s .args .levels-left - 1) (l .before .before .before .parts-of .result .now) (s .args .room)
+    let s = entry t (l .before) in
+    measuring-done (mapping t s) (s .args .levels-left - 1) (s .args .parts .now) (s .args .room)
     (l .loop .total) (l .loop .i) (l .loop .inv) (c .loop-test .left)
     ∙ sym (parts-decide t (l .before))
 
@@ -211,21 +234,21 @@ pub +measure-spec : {M : Type 1} → statement M
 +measure-spec =
     close μ-measure λ t.
     lts.spec (claims t) (at t) reads.Post Inv-loop μ-loop
-    (parts-of-requires t)
     (returns t)
-    (returns-2 t)
-    (returns-3 t)
     (loop-holds t)
+    (mul-t14 t)
+    (shared-slice-read-t17 t)
+    (parts-of-requires t)
+    (returns-2 t)
+    (add-total t)
     (sub-measure t)
-    (mul-t16 t)
-    (shared-slice-read-t18 t)
     (sub-measure-2 t)
     (measure-requires t)
-    (enum-known-part t)
-    (add-total t)
+    (enum-known-measurement t)
+    (add-total-2 t)
     (enum-told t)
-    (returns-4 t)
+    (returns-3 t)
     (add-i t)
     (loop-less t)
     (loop-again t)
-    (returns-5 t)
+    (returns-4 t)

@@ -1,13 +1,15 @@
--- `decompose::size_unfolded` meets its contract. It calls itself for each part, one level down; the measure of the recursion is the
--- levels left. The loop's invariant: the parts so far come to `octets` octets and, with the ask for the parts, to `asks` asks
--- (`Sizing`). The loop's measure is the number of parts that are left. Assumes nothing.
+-- `decompose::size_unfolded` meets its contract. It calls itself for each part that decomposes, one level down; the measure of the
+-- recursion is the levels left. The loop's invariant: the parts so far come to `octets` octets and, with the ask for the parts, to
+-- `asks` asks (`Sizing`). The loop's measure is the number of parts that are left. Assumes nothing.
 use Prim.Native.Nat.{ℕ, _+_, _-_, _≤_, _<_}
 use native.Mathlib.Omega.{arith}
-use lib.ListN.{length}
+use mathlib.Core.Logic.{⊎-elim}
+use lib.ListN.{length, getD}
 use borrow.Author.Needs.{needs}
 use Rattle.table.specs.Mapping.{Mapping}
 use Rattle.table.specs.Table.{mappingOf}
-use Rattle.table.proofs.Form.{formed-parts-most}
+use Rattle.decompose.specs.Promises.{FullCounted}
+use Rattle.decompose.specs.declared.Unfolded.{Unfolded}
 use Rattle.decompose.proofs.Walk.{parts-none, counted-whole, Split, bounded-levels, bounded-part, bounded-octets, bounded-asks}
 use Rattle.decompose.proofs.Unfolding.{Sizing, sizing-start, sizing-more, sizing-done, sizing-octets, sizing-asked}
 use borrow.Fn.Kinds.{In, Out}
@@ -21,107 +23,99 @@ use Rattle.decompose.proofs.+size_unfolded.{statement}
 use Rattle.decompose.proofs.+size_unfolded.Tie.{close}
 
 -- the recursion's measure: the levels left
-abbrev μ-size-unfolded : Measures 2 kinds.ps ℕ
+abbrev μ-size-unfolded : Measures 3 kinds.ps ℕ
 μ-size-unfolded κs a = a .0
 
 -- what the function is given at the measure t, and what a call of itself asks below t
-abbrev at : ℕ → In 2 kinds.ps
-at t = and 2 kinds.ps (is 2 kinds.ps μ-size-unfolded t) reads.Pre
+abbrev at : ℕ → In 3 kinds.ps
+at t = and 3 kinds.ps (is 3 kinds.ps μ-size-unfolded t) reads.Pre
 
-abbrev below : ℕ → In 2 kinds.ps
-below t = and 2 kinds.ps (falls 2 kinds.ps _<_ μ-size-unfolded t) reads.Pre
+abbrev below : ℕ → In 3 kinds.ps
+below t = and 3 kinds.ps (falls 3 kinds.ps _<_ μ-size-unfolded t) reads.Pre
 
 abbrev claims : ℕ → lts.Claims
 claims t = (parts-of-reads.Asked, parts-of-reads.Learnt, octet-count-reads.Asked, octet-count-reads.Learnt, below t, reads.Post)
 
 abbrev Inv-loop : lts.InvT-loop
-Inv-loop levels-left entries pool parts octets₀ asks₀ i₀ octets asks i =
+Inv-loop levels-left parts entries pool octets₀ asks₀ i₀ octets asks i =
     Sizing (mappingOf entries pool) (levels-left - 1) parts octets asks i
 
 abbrev μ-loop : lts.MeasureT-loop
-μ-loop levels-left entries pool parts octets₀ asks₀ i₀ octets asks i = length parts - i
+μ-loop levels-left parts entries pool octets₀ asks₀ i₀ octets asks i = length parts - i
 
 -- a need, or a place of the code, at the measure t
-abbrev Of : ℕ → (lts.Claims → In 2 kinds.ps → Out 2 kinds.ps kinds.r → lts.InvT-loop → lts.MeasureT-loop → Type 0) → Type 0
+abbrev Of : ℕ → (lts.Claims → In 3 kinds.ps → Out 3 kinds.ps kinds.r → lts.InvT-loop → lts.MeasureT-loop → Type 0) → Type 0
 Of t F = F (claims t) (at t) reads.Post Inv-loop μ-loop
 
 -- at the function's entry: the mapping of the table
 abbrev mapping : (t : ℕ) → Of t lts.Start → Mapping
 mapping t s = mappingOf (s .args .entries .now) (s .args .pool .now)
 
--- where there are parts: the function's entry, and that they are those of the code point
-abbrev entry : (t : ℕ) → Of t lts.Else1 → Of t lts.Start
-entry t c = c .before .before .before .before
-
-split : (t : ℕ) (c : Of t lts.Else1)
-    → Split (mapping t (entry t c)) (entry t c .args .c .0) (c .before .parts-of .result .now)
-split t c = record { parts = c .before .parts-of .ensures; some = c .if1 .left }
-
--- they are at most 32
-few : (t : ℕ) (c : Of t lts.Else1) → length (c .before .parts-of .result .now) ≤ 32
-few t c =
-    let s = entry t c in
-    rw (c .before .parts-of .ensures)
-    (formed-parts-most (s .args .entries .now) (s .args .pool .now) (s .pre .1 .0) (s .args .c .0))
+-- its parts are those of the code point
+split : (t : ℕ) (s : Of t lts.Start) → Split (mapping t s) (s .args .c .0) (s .args .parts .now)
+split t s = record { parts = s .pre .1 .1 .0; some = λ none. omega (arith, s .pre .1 .1 .1 .0) }
 
 -- and a level is left
-level : (t : ℕ) (c : Of t lts.Else1) → 1 ≤ entry t c .args .levels-left
-level t c =
-    let s = entry t c in
-    bounded-levels (mapping t s) (s .args .levels-left) (s .args .c .0) _ (s .pre .1 .1) (split t c)
+level : (t : ℕ) (s : Of t lts.Start) → 1 ≤ s .args .levels-left
+level t s = bounded-levels (mapping t s) (s .args .levels-left) (s .args .c .0) _ (s .pre .1 .1 .1 .1) (split t s)
 
--- where a part was sized: the loop's head, and that one part more is sized
-abbrev head : (t : ℕ) → Of t lts.After-size-unfolded → Of t lts.At-loop
+-- where a part was looked up: the loop's head, and the function's entry
+abbrev head : (t : ℕ) → Of t lts.After-parts-of → Of t lts.At-loop
 head t c = c .before .before .before
 
-more : (t : ℕ) (c : Of t lts.After-size-unfolded)
+abbrev start : (t : ℕ) → Of t lts.After-parts-of → Of t lts.Start
+start t c = head t c .before .before .before .before
+
+-- that part was counted
+abbrev Part : (t : ℕ) → Of t lts.After-parts-of → Unfolded → Type 0
+Part t c r =
+    let s = start t c in
+    FullCounted (mapping t s) (s .args .levels-left - 1) (getD (s .args .parts .now) (head t c .loop .i) 0) r
+
+-- so one part more is sized
+more : (t : ℕ) (c : Of t lts.After-parts-of) (r : Unfolded) → Part t c r
     → let l = head t c in
-    let s = entry t (l .before) in
-    Sizing (mapping t s) (s .args .levels-left - 1) (l .before .before .parts-of .result .now)
-    (l .loop .octets + c .size-unfolded .result .octets)
-    (l .loop .asks + c .size-unfolded .result .asks)
+    let s = start t c in
+    Sizing (mapping t s) (s .args .levels-left - 1) (s .args .parts .now)
+    (l .loop .octets + r .octets)
+    (l .loop .asks + r .asks)
     (l .loop .i + 1)
-more t c =
+more t c r part =
     let l = head t c in
-    let s = entry t (l .before) in
-    sizing-more (mapping t s) (s .args .levels-left - 1) (l .before .before .parts-of .result .now)
-    (l .loop .octets) (l .loop .asks) (l .loop .i) (c .size-unfolded .result)
-    (l .loop .inv) (c .before .before .loop-test .taken) (c .size-unfolded .ensures)
+    let s = start t c in
+    sizing-more (mapping t s) (s .args .levels-left - 1) (s .args .parts .now)
+    (l .loop .octets) (l .loop .asks) (l .loop .i) r (l .loop .inv) (c .before .before .loop-test .taken) part
 
--- so the octets are at most 128, and the asks at most 257
-octets-most : (t : ℕ) (c : Of t lts.After-size-unfolded) → head t c .loop .octets + c .size-unfolded .result .octets ≤ 128
-octets-most t c =
-    let l = head t c in
-    let s = entry t (l .before) in
+-- the octets are at most 128, and the asks at most 257
+octets-most : (t : ℕ) (c : Of t lts.After-parts-of) (r : Unfolded) → Part t c r → head t c .loop .octets + r .octets ≤ 128
+octets-most t c r part =
+    let s = start t c in
     omega (
       arith,
-      sizing-octets (mapping t s) (s .args .levels-left) (s .args .c .0) _ _ _ _ (level t (l .before)) (split t (l .before)) (more t c),
-      bounded-octets (mapping t s) (s .args .levels-left) (s .args .c .0) (s .pre .1 .1),
+      sizing-octets (mapping t s) (s .args .levels-left) (s .args .c .0) _ _ _ _ (level t s) (split t s) (more t c r part),
+      bounded-octets (mapping t s) (s .args .levels-left) (s .args .c .0) (s .pre .1 .1 .1 .1),
     )
 
-asks-few : (t : ℕ) (c : Of t lts.After-size-unfolded) → head t c .loop .asks + c .size-unfolded .result .asks ≤ 257
-asks-few t c =
-    let l = head t c in
-    let s = entry t (l .before) in
+asks-few : (t : ℕ) (c : Of t lts.After-parts-of) (r : Unfolded) → Part t c r → head t c .loop .asks + r .asks ≤ 257
+asks-few t c r part =
+    let s = start t c in
     omega (
       arith,
-      sizing-asked (mapping t s) (s .args .levels-left) (s .args .c .0) _ _ _ _ (level t (l .before)) (split t (l .before)) (more t c),
-      bounded-asks (mapping t s) (s .args .levels-left) (s .args .c .0) (s .pre .1 .1),
+      sizing-asked (mapping t s) (s .args .levels-left) (s .args .c .0) _ _ _ _ (level t s) (split t s) (more t c r part),
+      bounded-asks (mapping t s) (s .args .levels-left) (s .args .c .0) (s .pre .1 .1 .1 .1),
     )
 
-parts-of-requires : (t : ℕ) → Of t lts.Need-parts-of-requires
-parts-of-requires t c κs = c .before .before .pre .1 .0
+-- a part with no parts of its own was counted whole
+abbrev one : (t : ℕ) → Of t lts.After-octet-count → Unfolded
+one t c = record { octets = c .octet-count .result; asks = 1 }
 
-octet-count-requires : (t : ℕ) → Of t lts.Need-octet-count-requires
-octet-count-requires t c κs = search needs
-
--- no parts
-returns : (t : ℕ) → Of t lts.Need-returns
-returns t c =
-    let found = c .before .before in
-    let s = found .before .before .before in
-    counted-whole (mapping t s) (s .args .levels-left) (s .args .c .0)
-    (parts-none (mapping t s) (s .args .c .0) _ (found .parts-of .ensures) (c .before .if1 .taken))
+whole : (t : ℕ) (c : Of t lts.After-octet-count) → Part t (c .before .before) (one t c)
+whole t c =
+    let looked = c .before .before in
+    let s = start t looked in
+    let part = getD (s .args .parts .now) (head t looked .loop .i) 0 in
+    counted-whole (mapping t s) (s .args .levels-left - 1) part
+    (parts-none (mapping t s) part _ (looked .parts-of .ensures) (c .before .if1 .taken))
     (c .octet-count .result)
     (c .octet-count .ensures)
 
@@ -129,74 +123,104 @@ returns t c =
 loop-holds : (t : ℕ) → Of t lts.Need-loop-holds
 loop-holds t c = sizing-start _ _ _
 
+-- an index fits
+mul-t12 : (t : ℕ) → Of t lts.Need-mul-t12
+mul-t12 t c = omega (arith, c .loop-test .taken)
+
+shared-slice-read-t15 : (t : ℕ) → Of t lts.Need-shared-slice-read-t15
+shared-slice-read-t15 t c = c .before .loop-test .taken
+
+parts-of-requires : (t : ℕ) → Of t lts.Need-parts-of-requires
+parts-of-requires t c κs = c .before .before .before .before .before .before .pre .1 .0
+
+octet-count-requires : (t : ℕ) → Of t lts.Need-octet-count-requires
+octet-count-requires t c κs = search needs
+
+-- few octets, and few asks
+add-octets : (t : ℕ) → Of t lts.Need-add-octets
+add-octets t c = omega (arith, octets-most t (c .before .before) (one t c) (whole t c))
+
+add-asks : (t : ℕ) → Of t lts.Need-add-asks
+add-asks t c = omega (arith, asks-few t (c .before .before) (one t c) (whole t c))
+
 -- a level is left
 sub-size-unfolded : (t : ℕ) → Of t lts.Need-sub-size-unfolded
-sub-size-unfolded t c = level t (c .before .before)
+sub-size-unfolded t c = level t (start t (c .before))
 
--- an index fits
-mul-t15 : (t : ℕ) → Of t lts.Need-mul-t15
-mul-t15 t c = omega (arith, c .loop-test .taken, few t (c .before .before))
-
-shared-slice-read-t17 : (t : ℕ) → Of t lts.Need-shared-slice-read-t17
-shared-slice-read-t17 t c = c .before .loop-test .taken
-
--- one level down
+-- one level down, with the parts that were found
 size-unfolded-requires : (t : ℕ) → Of t lts.Need-size-unfolded-requires
 size-unfolded-requires t c κs =
-    let l = c .before .before in
-    let s = entry t (l .before) in (
-      omega (arith, level t (l .before), s .pre .0),
+    let l = head t (c .before) in
+    let s = start t (c .before) in (
+      omega (arith, level t s, s .pre .0),
       (
         s .pre .1 .0,
-        bounded-part (mapping t s) (s .args .levels-left) (s .args .c .0) _ (l .loop .i) (s .pre .1 .1) (split t (l .before))
-            (c .before .loop-test .taken),
+        (
+          c .before .parts-of .ensures,
+          (
+            omega (arith, c .if1 .left),
+            bounded-part (mapping t s) (s .args .levels-left) (s .args .c .0) _ (l .loop .i) (s .pre .1 .1 .1 .1) (split t s)
+                (c .before .before .before .loop-test .taken),
+          ),
+        ),
       ),
     )
 
--- few octets
-add-octets : (t : ℕ) → Of t lts.Need-add-octets
-add-octets t c = omega (arith, octets-most t (c .before))
+add-octets-2 : (t : ℕ) → Of t lts.Need-add-octets-2
+add-octets-2 t c =
+    let called = c .before in
+    omega (arith, octets-most t (called .before .before) (called .size-unfolded .result) (called .size-unfolded .ensures))
 
--- few asks
-add-asks : (t : ℕ) → Of t lts.Need-add-asks
-add-asks t c = omega (arith, asks-few t (c .before .before))
+add-asks-2 : (t : ℕ) → Of t lts.Need-add-asks-2
+add-asks-2 t c =
+    let called = c .before .before in
+    omega (arith, asks-few t (called .before .before) (called .size-unfolded .result) (called .size-unfolded .ensures))
 
 -- an index fits
 add-i : (t : ℕ) → Of t lts.Need-add-i
-add-i t c =
-    let l = head t (c .before .before) in
-    omega (arith, c .before .before .before .before .loop-test .taken, few t (l .before))
+add-i t c = omega (arith, c .before .before .before .loop-test .taken)
 
 loop-less : (t : ℕ) → Of t lts.Need-loop-less
-loop-less t c = omega (arith, c .before .before .before .before .loop-test .taken)
+loop-less t c = omega (arith, c .before .before .before .loop-test .taken)
 
--- one part more
+-- one part more, either way
 loop-again : (t : ℕ) → Of t lts.Need-loop-again
-loop-again t c = more t (c .before .before)
+loop-again t c =
+    ⊎-elim
+    (λ w.
+    let counted : Of t lts.After-octet-count = record {
+      before = record { before = c .before; if1 = w .0 };
+      octet-count = w .1;
+    } in
+    rw (w .2, w .3) (more t (c .before) (one t counted) (whole t counted)))
+    (λ w.
+    rw (w .4, w .5) (more t (c .before) (w .1 .result) (w .1 .ensures)))
+    (c .if1 .came)
 
 -- every part was sized
-returns-2 : (t : ℕ) → Of t lts.Need-returns-2
-returns-2 t c =
+returns : (t : ℕ) → Of t lts.Need-returns
+returns t c =
     let l = c .before in
-    let s = entry t (l .before) in
-    sizing-done (mapping t s) (s .args .levels-left) (s .args .c .0) _ _ _ _ (level t (l .before)) (split t (l .before))
+    let s = l .before .before .before .before in
+    sizing-done (mapping t s) (s .args .levels-left) (s .args .c .0) _ _ _ _ (level t s) (split t s)
     (l .loop .inv) (c .loop-test .left)
 
 pub +size-unfolded-spec : {M : Type 1} → statement M
 +size-unfolded-spec =
     close μ-size-unfolded λ t.
     lts.spec (claims t) (at t) reads.Post Inv-loop μ-loop
+    (loop-holds t)
+    (mul-t12 t)
+    (shared-slice-read-t15 t)
     (parts-of-requires t)
     (octet-count-requires t)
-    (returns t)
-    (loop-holds t)
-    (sub-size-unfolded t)
-    (mul-t15 t)
-    (shared-slice-read-t17 t)
-    (size-unfolded-requires t)
     (add-octets t)
     (add-asks t)
+    (sub-size-unfolded t)
+    (size-unfolded-requires t)
+    (add-octets-2 t)
+    (add-asks-2 t)
     (add-i t)
     (loop-less t)
     (loop-again t)
-    (returns-2 t)
+    (returns t)

@@ -1,5 +1,5 @@
 -- `decompose::size_expansion` meets its contract: a code point without an entry is its own expansion, for two asks; with one,
--- the titlecase unfolds, since every code point of an accepted table does.
+-- so is a titlecase that has no parts, and another unfolds, since every code point of an accepted table does.
 -- Assumes nothing.
 use Prim.Native.Nat.{_<_}
 use native.Mathlib.Omega.{arith}
@@ -12,7 +12,7 @@ use Rattle.table.specs.Table.{entryCount, titleAt, formRefusal, entryOf, mappin
 use Rattle.table.specs.Promises.{placeTold}
 use Rattle.table.proofs.Form.{formed-ascending, entryOf-some}
 use Rattle.decompose.specs.Promises.{Bounded}
-use Rattle.decompose.proofs.Walk.{bounded-unfolds, bounded-asks}
+use Rattle.decompose.proofs.Walk.{parts-none, counted-whole, bounded-unfolds, bounded-asks}
 use Rattle.decompose.proofs.Expansion.{counted-none, counted-entry}
 use Rattle.decompose.proofs.Demand3.{accepted-form, accepted-all}
 use Rattle.decompose.proofs.size_expansion.Statement.{statement}
@@ -73,33 +73,57 @@ returns c =
     (c .octet-count .ensures)
 
 -- the entry is one
-mul-t9 : tie.Need-mul-t9
-mul-t9 c = omega (arith, entry (c .before))
-
-add-t10 : tie.Need-add-t10
-add-t10 c = omega (arith, entry (c .before))
-
 mul-t11 : tie.Need-mul-t11
 mul-t11 c = omega (arith, entry (c .before))
 
-shared-slice-read-t13 : tie.Need-shared-slice-read-t13
-shared-slice-read-t13 c = omega (arith, entry (c .before .before))
+add-t12 : tie.Need-add-t12
+add-t12 c = omega (arith, entry (c .before))
 
--- its titlecase unfolds
+mul-t13 : tie.Need-mul-t13
+mul-t13 c = omega (arith, entry (c .before))
+
+shared-slice-read-t15 : tie.Need-shared-slice-read-t15
+shared-slice-read-t15 c = omega (arith, entry (c .before .before))
+
+-- it was found
+title-parts-requires : tie.Need-title-parts-requires
+title-parts-requires c κs = let at-i = c .before .before in (form (start at-i), found at-i)
+
+octet-count-requires-2 : tie.Need-octet-count-requires-2
+octet-count-requires-2 c κs = search needs
+
+-- a titlecase with no parts
+returns-2 : tie.Need-returns-2
+returns-2 c =
+    let parted = c .before .before in
+    let at-i = parted .before .before .before in
+    let s = start at-i in
+    let title = titleAt (s .args .entries .now) (at-i .i .given .0 .0) in
+    counted-entry (s .args .entries .now) (s .args .pool .now) (s .args .c .0) _ (found at-i)
+    (record { octets = c .octet-count2 .result; asks = 1 })
+    (counted-whole (mapping s) levelsMost title
+    (parts-none (mapping s) title _ (parted .title-parts .ensures) (c .before .if1 .taken))
+    (c .octet-count2 .result)
+    (c .octet-count2 .ensures))
+
+-- its titlecase has these parts, and unfolds
 size-unfolded-requires : tie.Need-size-unfolded-requires
-size-unfolded-requires c κs = let at-i = c .before .before in (form (start at-i), bounded at-i)
+size-unfolded-requires c κs =
+    let parted = c .before in
+    let at-i = parted .before .before .before in
+    (form (start at-i), (parted .title-parts .ensures, (omega (arith, c .if1 .left), bounded at-i)))
 
 -- for few asks
-add-t14 : tie.Need-add-t14
-add-t14 c =
-    let at-i = c .before .before .before .before in
+add-t17 : tie.Need-add-t17
+add-t17 c =
+    let at-i = c .before .before .before .before .before .before in
     omega (arith, c .before .size-unfolded .ensures .asked, bounded-asks (mapping (start at-i)) levelsMost _ (bounded at-i))
 
 -- an entry
-returns-2 : tie.Need-returns-2
-returns-2 c =
+returns-3 : tie.Need-returns-3
+returns-3 c =
     let called = c .before in
-    let at-i = called .before .before .before in
+    let at-i = called .before .before .before .before .before in
     let s = start at-i in
     counted-entry (s .args .entries .now) (s .args .pool .now) (s .args .c .0) _ (found at-i) (called .size-unfolded .result)
     (called .size-unfolded .ensures)
@@ -113,10 +137,13 @@ size-expansion-spec =
     enum-told
     octet-count-requires
     returns
-    mul-t9
-    add-t10
     mul-t11
-    shared-slice-read-t13
+    add-t12
+    mul-t13
+    shared-slice-read-t15
+    title-parts-requires
+    octet-count-requires-2
+    returns-2
     size-unfolded-requires
-    add-t14
-    returns-2)
+    add-t17
+    returns-3)

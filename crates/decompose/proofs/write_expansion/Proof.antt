@@ -1,20 +1,24 @@
 -- `decompose::write_expansion` meets its contract: a code point without an entry is its own expansion, for two asks; with one,
--- the titlecase unfolds, since every code point of an accepted table does.
+-- it is the titlecase if that has no parts, for two asks too; and else the titlecase unfolds, since every code point of an
+-- accepted table does.
 -- Assumes nothing.
 use Prim.Native.Nat.{_<_}
 use native.Mathlib.Omega.{arith}
 use mathlib.Core.Path.{_≡_, sym, ap, _∙_}
+use mathlib.Core.Bool.{true}
 use mathlib.Core.Option.{none, some}
+use mathlib.Core.List.{[]}
 use borrow.Author.Needs.{needs}
+use Rattle.terms.specs.CodePoints.{scalar}
 use Rattle.terms.specs.Refusals.{levelsMost}
 use Rattle.table.specs.Mapping.{Mapping}
-use Rattle.table.specs.Table.{entryCount, titleAt, formRefusal, entryOf, mappingOf}
+use Rattle.table.specs.Table.{entryCount, titleAt, formRefusal, entryOf, partsOf, mappingOf}
 use Rattle.table.specs.Promises.{placeTold}
 use Rattle.table.proofs.Form.{formed-ascending, formed-title, entryOf-some}
 use Rattle.utf8.proofs.Encode.{scalar-most}
 use Rattle.decompose.specs.Promises.{Bounded}
-use Rattle.decompose.proofs.Walk.{bounded-unfolds, bounded-asks}
-use Rattle.decompose.proofs.Expansion.{expanded-none, filled-none, expanded-entry, filled-entry}
+use Rattle.decompose.proofs.Walk.{parts-none, bounded-unfolds, bounded-asks}
+use Rattle.decompose.proofs.Expansion.{expanded-none, filled-none, expanded-entry, filled-entry, expanded-title, filled-title}
 use Rattle.decompose.proofs.Demand3.{accepted-form, accepted-all}
 use Rattle.decompose.proofs.write_expansion.Statement.{statement}
 use Rattle.decompose.proofs.write_expansion.Tie as tie
@@ -36,7 +40,12 @@ found c = sym (c .before .before .find-entry .ensures) ∙ ap placeTold (c .i .g
 entry : (c : tie.After-i) → c .i .given .0 .0 < entryCount (start c .args .entries .now)
 entry c = entryOf-some (start c .args .entries .now) (start c .args .c .0) (c .i .given .0 .0) (found c) .0
 
--- its titlecase unfolds
+-- its titlecase is scalar, and unfolds
+scalar-title : (c : tie.After-i) → scalar (titleAt (start c .args .entries .now) (c .i .given .0 .0)) ≡ true
+scalar-title c =
+    let s = start c in
+    formed-title (s .args .entries .now) (s .args .pool .now) (form s) (c .i .given .0 .0) (entry c)
+
 bounded : (c : tie.After-i)
     → Bounded (mapping (start c)) levelsMost (titleAt (start c .args .entries .now) (c .i .given .0 .0))
 bounded c =
@@ -44,7 +53,22 @@ bounded c =
     let title = titleAt (s .args .entries .now) (c .i .given .0 .0) in
     bounded-unfolds (mapping s) title (accepted-all (s .args .entries .now) (s .args .pool .now) (s .pre .0) title)
 
--- where none was found: the function's entry, and that there is none
+-- where the titlecase's parts were looked up: where the entry was found
+abbrev at-entry : tie.After-title-parts → tie.After-i
+at-entry c = c .before .before .before
+
+-- where there are none
+whole : (c : tie.Then1)
+    → let at-i = at-entry (c .before) in
+    let s = start at-i in
+    partsOf (s .args .entries .now) (s .args .pool .now) (titleAt (s .args .entries .now) (at-i .i .given .0 .0)) ≡ []
+whole c =
+    let at-i = at-entry (c .before) in
+    let s = start at-i in
+    parts-none (mapping s) (titleAt (s .args .entries .now) (at-i .i .given .0 .0)) _ (c .before .title-parts .ensures)
+    (c .if1 .taken)
+
+-- where no entry was found: the function's entry, and that there is none
 abbrev start-none : tie.After-enum-told → tie.Start
 start-none c = c .before .before .before .before .before .before
 
@@ -83,44 +107,68 @@ returns c =
     (called .write-character .ensures)
 
 -- the entry is one
-mul-t12 : tie.Need-mul-t12
-mul-t12 c = omega (arith, entry (c .before))
-
-add-t13 : tie.Need-add-t13
-add-t13 c = omega (arith, entry (c .before))
-
 mul-t14 : tie.Need-mul-t14
 mul-t14 c = omega (arith, entry (c .before))
 
-shared-slice-read-t16 : tie.Need-shared-slice-read-t16
-shared-slice-read-t16 c = omega (arith, entry (c .before .before))
+add-t15 : tie.Need-add-t15
+add-t15 c = omega (arith, entry (c .before))
 
--- its titlecase is scalar and unfolds, and there is room
-write-unfolded-requires : tie.Need-write-unfolded-requires
-write-unfolded-requires c κs =
-    let at-i = c .before .before .before in
+mul-t16 : tie.Need-mul-t16
+mul-t16 c = omega (arith, entry (c .before))
+
+shared-slice-read-t18 : tie.Need-shared-slice-read-t18
+shared-slice-read-t18 c = omega (arith, entry (c .before .before))
+
+-- it was found
+title-parts-requires : tie.Need-title-parts-requires
+title-parts-requires c κs = let at-i = c .before .before in (form (start at-i), found at-i)
+
+-- the titlecase is scalar, and there is room for its octets
+write-character-requires-2 : tie.Need-write-character-requires-2
+write-character-requires-2 c κs =
+    let at-i = at-entry (c .before .before) in
     let s = start at-i in
-    let es = s .args .entries .now in
-    let pool = s .args .pool .now in
-    let i = at-i .i .given .0 .0 in
-    let octets = expanded-entry es pool (s .args .c .0) i (found at-i) in
-    (form s, (formed-title es pool (form s) i (entry at-i), (bounded at-i, rw octets at (s .pre .1 .1))))
-
--- for few asks
-add-t19 : tie.Need-add-t19
-add-t19 c =
-    let called = c .before .before .before in
-    let at-i = called .before .before .before .before in
-    omega (arith, called .write-unfolded .ensures .counted .asked, bounded-asks (mapping (start at-i)) levelsMost _ (bounded at-i))
+    let octets = expanded-title (s .args .entries .now) (s .args .pool .now) (s .args .c .0) _ (found at-i) (whole (c .before)) in
+    (scalar-most _ (scalar-title at-i), rw octets at (s .pre .1 .1))
 
 same-length-2 : tie.Need-same-length-2
 same-length-2 c = search needs
 
--- an entry
+-- the titlecase has no parts
 returns-2 : tie.Need-returns-2
 returns-2 c =
+    let called = c .before .before in
+    let at-whole = called .before .before in
+    let at-i = at-entry (at-whole .before) in
+    let s = start at-i in
+    filled-title (s .args .entries .now) (s .args .pool .now) (s .args .c .0) _ (found at-i) (whole at-whole) (s .args .out .now) _ _
+    (called .write-character2 .ensures)
+
+-- the titlecase has these parts, is scalar and unfolds, and there is room
+write-unfolded-requires : tie.Need-write-unfolded-requires
+write-unfolded-requires c κs =
+    let parted = c .before .before in
+    let at-i = at-entry parted in
+    let s = start at-i in
+    let octets = expanded-entry (s .args .entries .now) (s .args .pool .now) (s .args .c .0) _ (found at-i) in
+    let parts = parted .title-parts .ensures in
+    (form s, (parts, (omega arith, (scalar-title at-i, (bounded at-i, rw octets at (s .pre .1 .1))))))
+
+-- for few asks
+add-t24 : tie.Need-add-t24
+add-t24 c =
     let called = c .before .before .before in
-    let at-i = called .before .before .before .before in
+    let at-i = at-entry (called .before .before .before) in
+    omega (arith, called .write-unfolded .ensures .counted .asked, bounded-asks (mapping (start at-i)) levelsMost _ (bounded at-i))
+
+same-length-3 : tie.Need-same-length-3
+same-length-3 c = search needs
+
+-- the titlecase has parts
+returns-3 : tie.Need-returns-3
+returns-3 c =
+    let called = c .before .before .before in
+    let at-i = at-entry (called .before .before .before) in
     let s = start at-i in
     filled-entry (s .args .entries .now) (s .args .pool .now) (s .args .c .0) _ (found at-i) (s .args .out .now)
     (called .write-unfolded .result) _ (called .write-unfolded .ensures)
@@ -135,11 +183,15 @@ write-expansion-spec =
     write-character-requires
     same-length
     returns
-    mul-t12
-    add-t13
     mul-t14
-    shared-slice-read-t16
-    write-unfolded-requires
-    add-t19
+    add-t15
+    mul-t16
+    shared-slice-read-t18
+    title-parts-requires
+    write-character-requires-2
     same-length-2
-    returns-2)
+    returns-2
+    write-unfolded-requires
+    add-t24
+    same-length-3
+    returns-3)

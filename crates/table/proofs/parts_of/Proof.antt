@@ -1,140 +1,84 @@
--- `table::parts_of` meets its contract: the answer of `find_entry` says which case of `partsIn` holds, and the form of the table
--- that the parts of an entry lie in the pool.
+-- `table::parts_of` meets its contract: the answer of the search says which case of `partsIn` holds.
 -- Assumes nothing.
-use Prim.Native.Nat.{_+_, _-_, _≤_, _<_}
 use native.Mathlib.Omega.{arith}
 use mathlib.Core.Path.{_≡_, sym, ap, _∙_}
 use mathlib.Core.Option.{some}
-use lib.ListN.{length}
 use borrow.Author.Needs.{needs}
-use Rattle.table.specs.Table.{entryCount, startAt, countAt, entryOf, partsIn}
-use Rattle.table.specs.Promises.{placeTold}
-use Rattle.table.proofs.Form.{formed-ascending, formed-fits, entryOf-some}
+use Rattle.table.specs.Table.{entryOf, partsIn}
+use Rattle.table.specs.Promises.{placeTold, Ascending}
+use Rattle.table.proofs.Form.{formed-ascending, entryOf-some}
+use Rattle.table.proofs.Search.{reached-none, reached→among}
 use Rattle.table.proofs.parts_of.Statement.{statement}
 use Rattle.table.proofs.parts_of.Tie as tie
 
--- where an entry was found: which, that it is one, and that its parts lie in the pool
-found : (c : tie.After-i) → let start = c .before .before .before .before .before in
-    entryOf (start .args .entries .now) (start .args .c .0) ≡ some (c .i .given .0 .0)
-found c = sym (c .before .before .find-entry .ensures) ∙ ap placeTold (c .i .given .1)
+-- where an entry was found: the function's entry, and which it is
+abbrev start : tie.After-i → tie.Start
+start c = c .before .before .before .before .before .before .before
 
-within : (c : tie.After-i) → let start = c .before .before .before .before .before in
-    c .i .given .0 .0 < entryCount (start .args .entries .now)
-within c =
-    let start = c .before .before .before .before .before in
-    entryOf-some (start .args .entries .now) (start .args .c .0) (c .i .given .0 .0) (found c) .0
-
-fits : (c : tie.After-i) → let start = c .before .before .before .before .before in
-    let es = start .args .entries .now in
-    startAt es (c .i .given .0 .0) + countAt es (c .i .given .0 .0) ≤ length (start .args .pool .now)
-fits c =
-    let start = c .before .before .before .before .before in
-    formed-fits (start .args .entries .now) (start .args .pool .now) (start .pre) (c .i .given .0 .0) (within c)
+found : (c : tie.After-i) → entryOf (start c .args .entries .now) (start c .args .c .0) ≡ some (c .i .given .0 .0)
+found c = sym (c .before .before .find-around .ensures) ∙ ap placeTold (c .i .given .1)
 
 -- the code points ascend
-find-entry-requires : tie.Need-find-entry-requires
-find-entry-requires c κs =
-    let start = c .before .before in
-    formed-ascending (start .args .entries .now) (start .args .pool .now) (start .pre)
+ascending : (s : tie.Start) → Ascending (s .args .entries .now)
+ascending s = formed-ascending (s .args .entries .now) (s .args .pool .now) (s .pre)
+
+within-reach-requires : tie.Need-within-reach-requires
+within-reach-requires c κs = ascending (c .before .before)
+
+slice-aggregate-result : tie.Need-slice-aggregate-result
+slice-aggregate-result c = search needs
+
+-- no entry within reach, no parts
+returns : tie.Need-returns
+returns c =
+    let called = c .before .before in
+    let s = called .before .before .before in
+    let none-reached = reached-none (rw (c .before .if1 .taken) at (called .within-reach .ensures)) in
+    sym (ap (partsIn (s .args .entries .now) (s .args .pool .now)) none-reached)
+
+find-around-requires : tie.Need-find-around-requires
+find-around-requires c κs =
+    let called = c .before in
+    (ascending (called .before .before .before), reached→among (called .within-reach .ensures) (omega arith))
 
 enum-known-i : tie.Need-enum-known-i
 enum-known-i c = search needs
 
 -- the entry is one
-mul-start : tie.Need-mul-start
-mul-start c = omega (arith, within (c .before))
-
-add-start : tie.Need-add-start
-add-start c = omega (arith, within (c .before))
-
-mul-start-2 : tie.Need-mul-start-2
-mul-start-2 c = omega (arith, within (c .before))
-
-shared-slice-read-start : tie.Need-shared-slice-read-start
-shared-slice-read-start c = omega (arith, within (c .before .before))
-
--- the start is in the pool
-cast-start : tie.Need-cast-start
-cast-start c = omega (arith, fits (c .before .before))
-
--- the entry is one
-mul-end : tie.Need-mul-end
-mul-end c = omega (arith, within (c .before .before))
-
-add-end : tie.Need-add-end
-add-end c = omega (arith, within (c .before .before))
-
-mul-end-2 : tie.Need-mul-end-2
-mul-end-2 c = omega (arith, within (c .before .before))
-
-shared-slice-read-end : tie.Need-shared-slice-read-end
-shared-slice-read-end c = omega (arith, within (c .before .before .before))
-
--- the end is in the pool
-cast-end : tie.Need-cast-end
-cast-end c = omega (arith, fits (c .before .before .before))
-
-add-end-2 : tie.Need-add-end-2
-add-end-2 c = omega (arith, fits (c .before .before .before))
-
-mul-result : tie.Need-mul-result
-mul-result c = omega (arith, fits (c .before .before .before))
-
-sub-result : tie.Need-sub-result
-sub-result c = search needs
-
-part-result-start : tie.Need-part-result-start
-part-result-start c = search needs
-
--- the end is in the pool
-part-result-end : tie.Need-part-result-end
-part-result-end c = fits (c .before .before .before)
+parts-at-requires : tie.Need-parts-at-requires
+parts-at-requires c κs =
+    let s = start (c .before) in
+    (s .pre, entryOf-some (s .args .entries .now) (s .args .c .0) _ (found (c .before)) .0)
 
 -- the parts of an entry
-returns : tie.Need-returns
-returns c =
-    let at-entry = c .before .before .before .before in
-    let es = at-entry .before .before .before .before .before .args .entries .now in
-    let i = at-entry .i .given .0 .0 in
-    let count : startAt es i + countAt es i - startAt es i ≡ countAt es i = omega arith in
-    rw (found at-entry, count)
+returns-2 : tie.Need-returns-2
+returns-2 c = rw (found (c .before .before)) (c .parts-at .ensures)
 
 enum-told : tie.Need-enum-told
 enum-told c = search needs
 
-slice-aggregate-result : tie.Need-slice-aggregate-result
-slice-aggregate-result c = search needs
+slice-aggregate-result-2 : tie.Need-slice-aggregate-result-2
+slice-aggregate-result-2 c = search needs
 
 -- no entry, no parts
-returns-2 : tie.Need-returns-2
-returns-2 c =
+returns-3 : tie.Need-returns-3
+returns-3 c =
     let told = c .before in
-    let start = told .before .before .before .before .before in
-    let nowhere = sym (told .before .before .find-entry .ensures) ∙ ap placeTold (told .enum-told .given .1) in
-    sym (ap (partsIn (start .args .entries .now) (start .args .pool .now)) nowhere)
+    let s = told .before .before .before .before .before .before .before in
+    let nowhere = sym (told .before .before .find-around .ensures) ∙ ap placeTold (told .enum-told .given .1) in
+    sym (ap (partsIn (s .args .entries .now) (s .args .pool .now)) nowhere)
 
 pub parts-of-spec : {M : Type 1} → statement M
 parts-of-spec =
     tie.close
     (tie.spec
-    find-entry-requires
-    enum-known-i
-    mul-start
-    add-start
-    mul-start-2
-    shared-slice-read-start
-    cast-start
-    mul-end
-    add-end
-    mul-end-2
-    shared-slice-read-end
-    cast-end
-    add-end-2
-    mul-result
-    sub-result
-    part-result-start
-    part-result-end
-    returns
-    enum-told
+    within-reach-requires
     slice-aggregate-result
-    returns-2)
+    returns
+    find-around-requires
+    enum-known-i
+    parts-at-requires
+    returns-2
+    enum-told
+    slice-aggregate-result-2
+    returns-3)

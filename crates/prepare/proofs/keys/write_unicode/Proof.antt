@@ -2,22 +2,20 @@
 -- lookups (`Sizing`), and were written into the first `end` octets of the buffer (`Writing`); the key and the numbers are these and
 -- those of what follows. The measure is what is left of the text.
 -- Assumes nothing.
-use mathlib.Core.Path.{_≡_, sym, _∙_, ap}
+use mathlib.Core.Path.{_≡_, sym}
 use mathlib.Core.List.{List, _++_}
-use mathlib.Core.Option.{none, some}
+use mathlib.Core.Option.{some}
 use Prim.Native.Nat.{ℕ, _+_, _-_, _≤_}
 use native.Mathlib.Nat.{le-refl}
 use native.Mathlib.Omega.{arith}
-use borrow.Author.Needs.{needs}
 use lib.ListN.{length, take, drop}
 use Rattle.terms.proofs.Parts.{take-drop, put-back}
 use Rattle.table.specs.Mapping.{Mapping}
 use Rattle.table.specs.Table.{mappingOf}
 use Rattle.utf8.specs.Utf8.{Character, character, decode}
-use Rattle.utf8.specs.Promises.{readingTold}
 use Rattle.utf8.proofs.Decode.{decode-sound}
 use Rattle.decompose.proofs.Demand3.{accepted-all}
-use Rattle.prepare.proofs.Walks.{decode-drop-fits, Sizing, sizing-start, sizing-more, sizing-done, Writing, writing-start, writing-more, writing-done, writing-stop, writing-length, writing-end, writing-room}
+use Rattle.prepare.proofs.Walks.{decode-drop-fits, Sizing, sizing-start, sizing-more, sizing-done, Writing, writing-start, writing-more, writing-done, writing-next, writing-length, writing-end, writing-room}
 use Rattle.prepare.proofs.keys.write_unicode.Statement.{statement}
 use Rattle.prepare.proofs.keys.write_unicode.Tie as tie
 
@@ -52,25 +50,25 @@ within l =
     (s .pre .1 .1 .0) (s .pre .1 .1 .1)
 
 -- where a character was read: the loop's head, and the character
-abbrev head : tie.After-reading Inv-loop μ-loop → tie.At-loop Inv-loop μ-loop
-head c = c .before .before .before .before
+abbrev head : tie.After-read-valid Inv-loop μ-loop → tie.At-loop Inv-loop μ-loop
+head c = c .before .before
 
-abbrev read : tie.After-reading Inv-loop μ-loop → Character
-read c = character (c .reading .given .0 .0 .0) (c .reading .given .0 .1 .0)
+abbrev read : tie.After-read-valid Inv-loop μ-loop → Character
+read c = character (c .read-valid .result .code .0) (c .read-valid .result .width)
 
-decoded : (c : tie.After-reading Inv-loop μ-loop) → decode (drop (head c .loop .at) (text-of (head c))) ≡ some (read c)
-decoded c = sym (c .before .before .read-character .ensures) ∙ ap readingTold (c .reading .given .1)
+decoded : (c : tie.After-read-valid Inv-loop μ-loop) → decode (drop (head c .loop .at) (text-of (head c))) ≡ some (read c)
+decoded c = sym (c .read-valid .ensures)
 
 -- it takes an octet or more, and no more than are left
-fits : (c : tie.After-reading Inv-loop μ-loop)
+fits : (c : tie.After-read-valid Inv-loop μ-loop)
     → (1 ≤ read c .width) × (head c .loop .at + read c .width ≤ length (text-of (head c)))
 fits c =
     let l = head c in
     decode-drop-fits (text-of l) (l .loop .at) (read c) (l .loop .inv .1 .passed) (decoded c)
 
 -- where it was written: one character more is written
-abbrev read-at : tie.After-write-expansion Inv-loop μ-loop → tie.After-reading Inv-loop μ-loop
-read-at c = c .before .before .before
+abbrev read-at : tie.After-write-expansion Inv-loop μ-loop → tie.After-read-valid Inv-loop μ-loop
+read-at c = c .before .before
 
 abbrev last : tie.After-write-expansion Inv-loop μ-loop → List ℕ
 last c = c .write-expansion .last .1 .1 .1 .0
@@ -118,40 +116,31 @@ ends c =
       writing-length (mapping l) (text-of l) (s .args .key .now) at end key (more c) (s .pre .1 .1 .0) (s .pre .1 .1 .1),
     )
 
--- no character: never so
-never : (c : tie.After-enum-told Inv-loop μ-loop) → ⊥
-never c =
-    let called = c .before .before in
-    let l = called .before .before in
-    let e : decode (drop (l .loop .at) (text-of l)) ≡ none =
-    sym (called .read-character .ensures) ∙ ap readingTold (c .enum-told .given .1) in
-    writing-stop (mapping l) (text-of l) (start l .args .key .now) (l .loop .at) (l .loop .end) (l .loop .key) (l .loop .inv .1)
-    (called .before .loop-test .taken) e
-
 -- before the first character
 loop-holds : tie.Need-loop-holds Inv-loop μ-loop
 loop-holds c = (sizing-start _ _, writing-start _ _ _ (c .before .before .before .before .pre .1 .1 .0))
 
-read-character-requires : tie.Need-read-character-requires Inv-loop μ-loop
-read-character-requires c κs = search needs
-
-enum-known-reading : tie.Need-enum-known-reading Inv-loop μ-loop
-enum-known-reading c = search needs
+-- a character follows
+read-valid-requires : tie.Need-read-valid-requires Inv-loop μ-loop
+read-valid-requires c κs =
+    let l = c .before in
+    writing-next (mapping l) (text-of l) (start l .args .key .now) (l .loop .at) (l .loop .end) (l .loop .key) (l .loop .inv .1)
+    (c .loop-test .taken)
 
 -- the part that is lent
 sub-write-expansion : tie.Need-sub-write-expansion Inv-loop μ-loop
-sub-write-expansion c = within (head (c .before))
+sub-write-expansion c = within (head c)
 
 part-write-expansion-start : tie.Need-part-write-expansion-start Inv-loop μ-loop
-part-write-expansion-start c = within (head (c .before))
+part-write-expansion-start c = within (head c)
 
 part-write-expansion-end : tie.Need-part-write-expansion-end Inv-loop μ-loop
-part-write-expansion-end c = le-refl (length (head (c .before) .loop .key))
+part-write-expansion-end c = le-refl (length (head c .loop .key))
 
 -- the table is accepted, a decoded character is scalar, and there is room in the part that is lent
 write-expansion-requires : tie.Need-write-expansion-requires Inv-loop μ-loop
 write-expansion-requires c κs =
-    let r = c .before .before in
+    let r = c .before in
     let l = head r in
     let s = start l in (
       s .pre .1 .0,
@@ -166,51 +155,38 @@ write-expansion-requires c κs =
 -- past the character
 add-at : tie.Need-add-at Inv-loop μ-loop
 add-at c =
-    let r = read-at (c .before .before) in
+    let r = read-at (c .before .before .before) in
     omega (arith, fits r, start (head r) .good .0)
 
 -- still within the buffer
 add-end : tie.Need-add-end Inv-loop μ-loop
 add-end c =
-    let w = c .before .before .before in
+    let w = c .before .before .before .before in
     omega (arith, ends w, start (head (read-at w)) .good .1 .1 .1 .0)
 
 -- few lookups
 add-lookups : tie.Need-add-lookups Inv-loop μ-loop
 add-lookups c =
-    let w = c .before .before .before .before in
+    let w = c .before .before .before .before .before in
     omega (arith, sized w .asked, sized w .passed, start (head (read-at w)) .pre .0)
 
 -- an octet or more fewer
 loop-less : tie.Need-loop-less Inv-loop μ-loop
-loop-less c = omega (arith, fits (read-at (c .before .before .before .before)))
+loop-less c = omega (arith, fits (read-at (c .before .before .before .before .before)))
 
 -- one character more
 loop-again : tie.Need-loop-again Inv-loop μ-loop
 loop-again c =
-    let w = c .before .before .before .before in
+    let w = c .before .before .before .before .before in
     let l = head (read-at w) in
     (sized w, rw (put-back (l .loop .end) (l .loop .key) (last w)) (more w))
 
-enum-told : tie.Need-enum-told Inv-loop μ-loop
-enum-told c = search needs
-
-kept-requires : tie.Need-kept-requires Inv-loop μ-loop
-kept-requires c κs = search needs
-
--- no character: never so
+-- the end of the text
 same-length : tie.Need-same-length Inv-loop μ-loop
-same-length c = absurd (never (c .before))
+same-length c = same (c .before)
 
 returns : tie.Need-returns Inv-loop μ-loop
-returns c = absurd (never (c .before))
-
--- the end of the text
-same-length-2 : tie.Need-same-length-2 Inv-loop μ-loop
-same-length-2 c = same (c .before)
-
-returns-2 : tie.Need-returns-2 Inv-loop μ-loop
-returns-2 c =
+returns c =
     let l = c .before in
     let s = start l in
     record {
@@ -228,8 +204,7 @@ write-unicode-spec =
     Inv-loop
     μ-loop
     loop-holds
-    read-character-requires
-    enum-known-reading
+    read-valid-requires
     sub-write-expansion
     part-write-expansion-start
     part-write-expansion-end
@@ -239,9 +214,5 @@ write-unicode-spec =
     add-lookups
     loop-less
     loop-again
-    enum-told
-    kept-requires
     same-length
-    returns
-    same-length-2
-    returns-2)
+    returns)
