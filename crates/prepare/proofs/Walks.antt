@@ -14,7 +14,7 @@ use Rattle.terms.specs.Lists.{each, total, there, over}
 use Rattle.terms.proofs.Parts.{length-over, over-append}
 use Rattle.table.specs.Mapping.{Mapping}
 use Rattle.utf8.specs.Utf8.{Character, decode, characters}
-use Rattle.utf8.proofs.Characters.{prepend, characters-nil, characters-more, characters-none}
+use Rattle.utf8.proofs.Characters.{prepend, characters-nil, characters-more}
 use Rattle.utf8.proofs.Fronts.{decode-fits, there-characters, there-decode}
 use Rattle.decompose.specs.Steps.{expanded, stepsKey, stepsLookups}
 use Rattle.decompose.specs.TableCheck.{unfolds}
@@ -36,9 +36,14 @@ characters-drop : (t : List ℕ) (at : ℕ) (ch : Character) → decode (drop at
     → characters (drop at t) ≡ prepend ch (characters (drop (at + ch .width) t))
 characters-drop t at ch e = characters-more (drop at t) ch e ∙ rw (drop-drop (ch .width) at t)
 
--- no character at a place before the end
-characters-stop : (t : List ℕ) (at : ℕ) → at < length t → decode (drop at t) ≡ none → characters (drop at t) ≡ none
-characters-stop t at h e = characters-none (drop at t) e (omega (arith, length-drop at t))
+-- of a text that is valid from a place on: it is so after the character there
+pub there-drop : (t : List ℕ) (at : ℕ) (ch : Character) → there (characters (drop at t)) ≡ true → decode (drop at t) ≡ some ch
+    → there (characters (drop (at + ch .width) t)) ≡ true
+there-drop t at ch v e = rw (← drop-drop (ch .width) at t) (sym (there-characters (drop at t) ch e) ∙ v)
+
+-- and a character stands there before the end
+pub there-next : (t : List ℕ) (at : ℕ) → there (characters (drop at t)) ≡ true → at < length t → there (decode (drop at t)) ≡ true
+there-next t at v h = there-decode (drop at t) v (omega (arith, length-drop at t))
 
 -- at the end there are none
 characters-end : (t : List ℕ) (at : ℕ) → length t ≤ at → characters (drop at t) ≡ some []
@@ -109,11 +114,6 @@ module _ (m : Mapping) (t : List ℕ) (at o k : ℕ) (w : Sizing m t at o k) whe
   pub sizing-done : length t ≤ at → preparedValues (unicodePrepared m t (characters t)) ≡ 1 ∷ k ∷ o ∷ 1 ∷ []
   sizing-done h = w .values ∙ ap (valuesFrom m t o k) (characters-end t at h) ∙ valuesFrom-done m t o k
 
-  -- no character follows: the text is not valid
-  pub sizing-stop : at < length t → decode (drop at t) ≡ none
-      → preparedValues (unicodePrepared m t (characters t)) ≡ 0 ∷ 0 ∷ length t ∷ 0 ∷ []
-  sizing-stop h e = w .values ∙ ap (valuesFrom m t o k) (characters-stop t at h e)
-
 -- ---- writing
 
 -- a text's key under collation 3
@@ -182,16 +182,12 @@ module _ (m : Mapping) (t buffer : List ℕ) (at end : ℕ) (after : List ℕ) (
   writing-more ch r last e filled =
       record {
         passed = decode-drop-fits t at ch (w .passed) e .1;
-        valid = rw (← drop-drop (ch .width) at t) (sym (there-characters (drop at t) ch e) ∙ w .valid);
+        valid = there-drop t at ch (w .valid) e;
         octets = w .octets ++ expanded m (ch .code);
         count = omega (arith, w .count, filled .counted .octets, length-append (w .octets) (expanded m (ch .code)));
         written = rw (filled .written, w .written, w .count) (over-append (w .octets) (expanded m (ch .code)) buffer);
         whole = whole-more ch e;
       }
-
-  -- a character follows, since the text is valid
-  pub writing-next : at < length t → there (decode (drop at t)) ≡ true
-  writing-next h = there-decode (drop at t) (w .valid) (omega (arith, length-drop at t))
 
   module _ (valid : there (characters t) ≡ true) where
     -- every character was written

@@ -2,7 +2,6 @@
 use super::KeyPlace;
 use super::Summary;
 use terms::TextPosition;
-use utf8::Reading;
 ghost use mathlib.Core.Path.{_≡_};
 ghost use mathlib.Core.Bool.{true};
 ghost use mathlib.Core.List.{[], _∷_, map};
@@ -25,7 +24,11 @@ pub fn size_key(collation: u32, text: &[u8], entries: &[u32], pool: &[u32]) -> S
     ensures { λ r. ⌜ summaryTold r ≡ preparedValues (prepared collation (mappingOf (now (entries .entry)) (now (pool .entry))) (now (text .entry))) ⌝ }
 {
     if collation == terms::UNICODE_CASEMAP {
-        return size_unicode(text, entries, pool);
+        // An invalid text is its own key.
+        if utf8::is_valid(text) {
+            return size_unicode(text, entries, pool);
+        }
+        return kept(text.len());
     }
     if collation == terms::ASCII_CASEMAP {
         return Summary {
@@ -85,28 +88,22 @@ pub fn fill_unicode(text: &[u8], entries: &[u32], pool: &[u32], key: &mut [u8]) 
     kept(text.len())
 }
 
-// What preparing a text under collation 3 comes to.
+// What preparing a valid text under collation 3 comes to.
 fn size_unicode(text: &[u8], entries: &[u32], pool: &[u32]) -> Summary
     requires { ⌜ length (now text) ≤ textMost ⌝ }
     requires { ⌜ tableRefusal (now entries) (now pool) ≡ none ⌝ }
+    requires { ⌜ there (characters (now text)) ≡ true ⌝ }
     ensures { λ r. ⌜ summaryTold r ≡ preparedValues (unicodePrepared (mappingOf (now (entries .entry)) (now (pool .entry))) (now (text .entry)) (characters (now (text .entry)))) ⌝ }
 {
     let mut at = 0;
     let mut octets = 0;
     let mut lookups: u64 = 0;
     while at < text.len() {
-        let reading = utf8::read_character(text, TextPosition(at));
-        match reading {
-            Reading::Character(c, width) => {
-                let sized = decompose::size_expansion(c, entries, pool);
-                at += width;
-                octets += sized.octets;
-                lookups += sized.asks;
-            }
-            Reading::Malformed => {
-                return kept(text.len());
-            }
-        }
+        let character = utf8::read_valid(text, TextPosition(at));
+        let sized = decompose::size_expansion(character.code, entries, pool);
+        at += character.width;
+        octets += sized.octets;
+        lookups += sized.asks;
     }
     Summary {
         valid: true,

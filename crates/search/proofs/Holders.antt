@@ -6,7 +6,7 @@ use native.Mathlib.Omega.{arith}
 use mathlib.Core.Bool.{true}
 use mathlib.Core.Option.{Option, none, some}
 use mathlib.Core.List.{List, [], _∷_}
-use lib.ListN.{length, drop, length-append, length-drop, drop-of-length-le}
+use lib.ListN.{length, drop, length-append, drop-of-length-le}
 use lib.Seq.{drop-drop}
 use borrow.Author.Tests.{lt-ltb, le-ltb}
 use Rattle.terms.specs.Lists.{there, each}
@@ -132,14 +132,6 @@ module _ (m : Mapping) (t : List ℕ) (from k at left : ℕ) (w : Walking m t fr
       place = sym (holder-here m ch rest at left h) ∙ ap (holder m at left) (sym (split .0)) ∙ w .place;
       offset = sym (offset-here m ch rest left h) ∙ ap (offsetOf m left) (sym (split .0)) ∙ w .offset;
     }
-
-  -- a character follows, since the text is valid
-  pub walking-stop : at < length t → decode (drop at t) ≡ none → ⊥
-  walking-stop h e =
-      let missing : characters (drop at t) ≡ none = characters-none (drop at t) e (omega (arith, length-drop at t)) in
-      let valid = w .ahead .valid in
-      let z : _≡_ {A = ℕ} 0 1 = cc (ap there missing) in
-      omega arith
 
   -- the octet comes before the end
   pub walking-done : length t ≤ at → ⊥

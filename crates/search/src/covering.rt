@@ -2,7 +2,6 @@
 // expansions, and nothing is written.
 use terms::KeyPosition;
 use terms::TextPosition;
-use utf8::Reading;
 ghost use mathlib.Core.Path.{_≡_};
 ghost use mathlib.Core.Option.{none};
 ghost use Rattle.table.specs.Table.{mappingOf};
@@ -66,22 +65,14 @@ fn find_holder(
     let mut at = from.0;
     let mut left = k.0;
     while at < text.len() {
-        let reading = utf8::read_character(text, TextPosition(at));
-        match reading {
-            Reading::Character(c, width) => {
-                let sized = decompose::size_expansion(c, entries, pool);
-                let octets = sized.octets;
-                if left < octets {
-                    return holder_at(at, at + width, left);
-                }
-                at += width;
-                left -= octets;
-            }
-            // Never so: the text is valid from there on.
-            Reading::Malformed => {
-                return holder_at(at, at, left);
-            }
+        let character = utf8::read_valid(text, TextPosition(at));
+        let sized = decompose::size_expansion(character.code, entries, pool);
+        let octets = sized.octets;
+        if left < octets {
+            return holder_at(at, at + character.width, left);
         }
+        at += character.width;
+        left -= octets;
     }
     // Never so: the key is longer than k.
     holder_at(at, at, left)

@@ -1,7 +1,7 @@
 // UTF-8 (RFC 3629): characters out of octets, and code points into octets.
 //
-// Reading asks nothing of the caller: octets that are no UTF-8 are an answer. Only read_valid asks that a character stands
-// there. Writing asks for a code point of at most 10FFFF hex and for room.
+// A text is judged once, by is_valid, which asks nothing of the caller. read_valid asks that a character stands there. Writing
+// asks for a code point of at most 10FFFF hex and for room.
 use terms::CodePoint;
 use terms::TextPosition;
 ghost use mathlib.Core.Path.{_≡_};
@@ -12,29 +12,6 @@ ghost use lib.ListN.{length, drop};
 ghost use Rattle.terms.specs.Lists.{there};
 ghost use Rattle.utf8.specs.Utf8.{encode, decode, characters, trails, taken, two, three, four};
 ghost use Rattle.utf8.specs.Promises.{readingTold, scannedTold, Written};
-
-// What stands at a position of a text.
-pub enum Reading {
-    // A character: its code point, and how many octets it takes.
-    Character(CodePoint, usize),
-    // No character begins there: the octets are no UTF-8, or the text is at its end.
-    Malformed,
-}
-
-// The character at a position of a text.
-pub fn read_character(text: &[u8], at: TextPosition) -> Reading
-    ensures { λ r. ⌜ readingTold r ≡ decode (drop (at .0) (now (text .entry))) ⌝ }
-{
-    let i = at.0;
-    if text.len() <= i {
-        return Reading::Malformed;
-    }
-    let a = wide(text[i]);
-    if a < 0x80 {
-        return Reading::Character(CodePoint(a), 1);
-    }
-    read_longer(a, &text[i + 1..])
-}
 
 // A character that was read: its code point, and how many octets it takes.
 pub struct Scanned {
@@ -85,18 +62,13 @@ pub fn is_valid(text: &[u8]) -> bool
 {
     let mut at = 0;
     while at < text.len() {
-        let a = wide(text[at]);
-        if a < 0x80 {
-            at += 1;
-        } else {
-            let reading = read_longer(a, &text[at + 1..]);
-            match reading {
-                Reading::Character(_, width) => {
-                    at += width;
-                }
-                Reading::Malformed => {
-                    return false;
-                }
+        let reading = read_character(text, TextPosition(at));
+        match reading {
+            Reading::Character(_, width) => {
+                at += width;
+            }
+            Reading::Malformed => {
+                return false;
             }
         }
     }
@@ -147,6 +119,29 @@ pub fn write_character(c: CodePoint, out: &mut [u8]) -> usize
     out[2] = (0x80 + n / 64 % 64) as u8;
     out[3] = (0x80 + n % 64) as u8;
     4
+}
+
+// What stands at a position of a text.
+enum Reading {
+    // A character: its code point, and how many octets it takes.
+    Character(CodePoint, usize),
+    // No character begins there: the octets are no UTF-8, or the text is at its end.
+    Malformed,
+}
+
+// The character at a position of a text.
+fn read_character(text: &[u8], at: TextPosition) -> Reading
+    ensures { λ r. ⌜ readingTold r ≡ decode (drop (at .0) (now (text .entry))) ⌝ }
+{
+    let i = at.0;
+    if text.len() <= i {
+        return Reading::Malformed;
+    }
+    let a = wide(text[i]);
+    if a < 0x80 {
+        return Reading::Character(CodePoint(a), 1);
+    }
+    read_longer(a, &text[i + 1..])
 }
 
 // An octet as a number of 32 bits.

@@ -2,18 +2,16 @@
 -- is what is left of the text.
 -- Assumes nothing.
 use mathlib.Core.Path.{_≡_, refl, sym, _∙_, ap}
-use mathlib.Core.List.{List, _∷_}
+use mathlib.Core.List.{List}
 use mathlib.Core.Option.{none, some}
 use Prim.Native.Nat.{ℕ, _+_, _-_, _≤_, _<_}
 use native.Mathlib.Omega.{arith}
 use borrow.Author.Needs.{needs}
-use lib.ListN.{length, take, drop, length-drop, drop-of-length-le}
+use lib.ListN.{length, drop, length-drop, drop-of-length-le}
 use lib.Seq.{drop-drop}
 use Rattle.terms.specs.Lists.{there}
 use Rattle.utf8.specs.Utf8.{Character, character, decode, characters}
 use Rattle.utf8.specs.Promises.{readingTold}
-use Rattle.terms.proofs.Parts.{drop-part}
-use Rattle.utf8.proofs.Encode.{decode-one}
 use Rattle.utf8.proofs.Characters.{characters-nil, characters-none}
 use Rattle.utf8.proofs.Fronts.{decode-fits, there-characters}
 use Rattle.utf8.proofs.is_valid.Statement.{statement}
@@ -32,38 +30,15 @@ text-of l = l .before .before .args .text .now
 abbrev left-of : tie.At-loop Inv-loop μ-loop → List ℕ
 left-of l = drop (l .loop .at) (text-of l)
 
--- where an octet was read: the loop's head, and what follows the octet
-abbrev octet-head : tie.After-wide Inv-loop μ-loop → tie.At-loop Inv-loop μ-loop
-octet-head w = w .before .before .before
-
-abbrev part : tie.After-wide Inv-loop μ-loop → List ℕ
-part w =
-    let l = octet-head w in
-    take (length (text-of l) - (l .loop .at + 1)) (drop (l .loop .at + 1) (text-of l))
-
--- what is left of the text: the octet, as it was read, and the part after it
-from-there : (w : tie.After-wide Inv-loop μ-loop) → left-of (octet-head w) ≡ w .wide .result ∷ part w
-from-there w =
-    let l = octet-head w in
-    drop-part (l .loop .at) (text-of l) (w .before .before .loop-test .taken) ∙ ap (λ (b : ℕ). b ∷ part w) (sym (w .wide .ensures))
-
--- a character of one octet
-one : (w : tie.After-wide Inv-loop μ-loop) → w .wide .result < 0x80 → decode (left-of (octet-head w)) ≡ some (character (w .wide .result) 1)
-one w l = ap decode (from-there w) ∙ decode-one (w .wide .result) (part w) l
-
--- where a longer character was read: the loop's head, and the character
+-- where a character was read: the loop's head, and the character
 abbrev head : tie.After-reading Inv-loop μ-loop → tie.At-loop Inv-loop μ-loop
-head c = c .before .before .before .before .before .before .before .before
+head c = c .before .before .before .before
 
 abbrev read : tie.After-reading Inv-loop μ-loop → Character
 read c = character (c .reading .given .0 .0 .0) (c .reading .given .0 .1 .0)
 
 decoded : (c : tie.After-reading Inv-loop μ-loop) → decode (left-of (head c)) ≡ some (read c)
-decoded c =
-    let called = c .before .before in
-    ap decode (from-there (called .before .before .before))
-    ∙ sym (called .read-longer .ensures)
-    ∙ ap readingTold (c .reading .given .1)
+decoded c = sym (c .before .before .read-character .ensures) ∙ ap readingTold (c .reading .given .1)
 
 -- the character takes an octet or more, and no more than are left
 fits : (c : tie.After-reading Inv-loop μ-loop)
@@ -77,58 +52,23 @@ fits c =
 loop-holds : tie.Need-loop-holds Inv-loop μ-loop
 loop-holds c = (search needs, refl)
 
-shared-slice-read-wide : tie.Need-shared-slice-read-wide Inv-loop μ-loop
-shared-slice-read-wide c = search needs
-
-wide-requires : tie.Need-wide-requires Inv-loop μ-loop
-wide-requires c κs = search needs
-
-add-at : tie.Need-add-at Inv-loop μ-loop
-add-at c = search needs
-
-loop-less : tie.Need-loop-less Inv-loop μ-loop
-loop-less c = search needs
-
--- one octet more
-loop-again : tie.Need-loop-again Inv-loop μ-loop
-loop-again c =
-    let w = c .before in
-    let l = octet-head w in (
-      omega (arith, w .before .before .loop-test .taken),
-      l .loop .inv .1
-          ∙ there-characters (left-of l) (character (w .wide .result) 1) (one w (c .if1 .taken))
-          ∙ ap (λ (t : List ℕ). there (characters t)) (drop-drop 1 (l .loop .at) (text-of l)),
-    )
-
-add-read-longer : tie.Need-add-read-longer Inv-loop μ-loop
-add-read-longer c = search needs
-
-sub-read-longer : tie.Need-sub-read-longer Inv-loop μ-loop
-sub-read-longer c = search needs
-
-part-read-longer-start : tie.Need-part-read-longer-start Inv-loop μ-loop
-part-read-longer-start c = search needs
-
-part-read-longer-end : tie.Need-part-read-longer-end Inv-loop μ-loop
-part-read-longer-end c = search needs
-
-read-longer-requires : tie.Need-read-longer-requires Inv-loop μ-loop
-read-longer-requires c κs = search needs
+read-character-requires : tie.Need-read-character-requires Inv-loop μ-loop
+read-character-requires c κs = search needs
 
 enum-known-reading : tie.Need-enum-known-reading Inv-loop μ-loop
 enum-known-reading c = search needs
 
 -- past the character
-add-at-2 : tie.Need-add-at-2 Inv-loop μ-loop
-add-at-2 c = omega (arith, fits (c .before), head (c .before) .before .before .good .0)
+add-at : tie.Need-add-at Inv-loop μ-loop
+add-at c = omega (arith, fits (c .before), head (c .before) .before .before .good .0)
 
 -- an octet or more fewer
-loop-less-2 : tie.Need-loop-less-2 Inv-loop μ-loop
-loop-less-2 c = omega (arith, fits (c .before))
+loop-less : tie.Need-loop-less Inv-loop μ-loop
+loop-less c = omega (arith, fits (c .before))
 
 -- one character more
-loop-again-2 : tie.Need-loop-again-2 Inv-loop μ-loop
-loop-again-2 c =
+loop-again : tie.Need-loop-again Inv-loop μ-loop
+loop-again c =
     let r = c .before in
     let l = head r in (
       fits r .1,
@@ -144,12 +84,9 @@ enum-told c = search needs
 returns : tie.Need-returns Inv-loop μ-loop
 returns c =
     let called = c .before .before in
-    let w = called .before .before .before in
-    let l = octet-head w in
-    let e : decode (left-of l) ≡ none =
-    ap decode (from-there w) ∙ sym (called .read-longer .ensures) ∙ ap readingTold (c .enum-told .given .1) in
-    let h : 0 < length (left-of l) =
-    omega (arith, w .before .before .loop-test .taken, length-drop (l .loop .at) (text-of l)) in
+    let l = called .before .before in
+    let e : decode (left-of l) ≡ none = sym (called .read-character .ensures) ∙ ap readingTold (c .enum-told .given .1) in
+    let h : 0 < length (left-of l) = omega (arith, called .before .loop-test .taken, length-drop (l .loop .at) (text-of l)) in
     sym (l .loop .inv .1 ∙ ap there (characters-none (left-of l) e h))
 
 -- the end of the text
@@ -168,20 +105,11 @@ is-valid-spec =
     Inv-loop
     μ-loop
     loop-holds
-    shared-slice-read-wide
-    wide-requires
+    read-character-requires
+    enum-known-reading
     add-at
     loop-less
     loop-again
-    add-read-longer
-    sub-read-longer
-    part-read-longer-start
-    part-read-longer-end
-    read-longer-requires
-    enum-known-reading
-    add-at-2
-    loop-less-2
-    loop-again-2
     enum-told
     returns
     returns-2)

@@ -15,7 +15,7 @@ use Rattle.table.specs.Table.{mappingOf}
 use Rattle.utf8.specs.Utf8.{Character, character, decode}
 use Rattle.utf8.proofs.Decode.{decode-sound}
 use Rattle.decompose.proofs.Demand3.{accepted-all}
-use Rattle.prepare.proofs.Walks.{decode-drop-fits, Sizing, sizing-start, sizing-more, sizing-done, Writing, writing-start, writing-more, writing-done, writing-next, writing-length, writing-end, writing-room}
+use Rattle.prepare.proofs.Walks.{decode-drop-fits, there-next, Sizing, sizing-start, sizing-more, sizing-done, Writing, writing-start, writing-more, writing-done, writing-length, writing-end, writing-room}
 use Rattle.prepare.proofs.keys.write_unicode.Statement.{statement}
 use Rattle.prepare.proofs.keys.write_unicode.Tie as tie
 
@@ -124,8 +124,7 @@ loop-holds c = (sizing-start _ _, writing-start _ _ _ (c .before .before .before
 read-valid-requires : tie.Need-read-valid-requires Inv-loop μ-loop
 read-valid-requires c κs =
     let l = c .before in
-    writing-next (mapping l) (text-of l) (start l .args .key .now) (l .loop .at) (l .loop .end) (l .loop .key) (l .loop .inv .1)
-    (c .loop-test .taken)
+    there-next (text-of l) (l .loop .at) (l .loop .inv .1 .valid) (c .loop-test .taken)
 
 -- the part that is lent
 sub-write-expansion : tie.Need-sub-write-expansion Inv-loop μ-loop

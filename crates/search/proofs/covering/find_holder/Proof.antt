@@ -1,19 +1,18 @@
 -- `search::covering::find_holder` meets its contract. The loop's invariant: octet k from the first place on is octet `left` from
 -- `at` on, where the text is valid and its key is longer (`Walking`). The measure is what is left of the text.
 -- Assumes nothing.
-use mathlib.Core.Path.{_≡_, sym, _∙_, ap}
+use mathlib.Core.Path.{_≡_, sym}
 use mathlib.Core.List.{List}
-use mathlib.Core.Option.{none, some}
+use mathlib.Core.Option.{some}
 use Prim.Native.Nat.{ℕ, _+_, _-_, _≤_}
 use native.Mathlib.Omega.{arith}
 use borrow.Author.Needs.{needs}
 use lib.ListN.{length, drop}
 use Rattle.table.specs.Mapping.{Mapping}
 use Rattle.utf8.specs.Utf8.{Character, character, decode}
-use Rattle.utf8.specs.Promises.{readingTold}
-use Rattle.prepare.proofs.Walks.{decode-drop-fits}
+use Rattle.prepare.proofs.Walks.{decode-drop-fits, there-next}
 use Rattle.table.specs.Table.{mappingOf}
-use Rattle.search.proofs.Holders.{Walking, walking-start, walking-more, walking-found, walking-stop, walking-done}
+use Rattle.search.proofs.Holders.{Walking, walking-start, walking-more, walking-found, walking-done}
 use Rattle.search.proofs.covering.find_holder.Statement.{statement}
 use Rattle.search.proofs.covering.find_holder.Tie as tie
 
@@ -40,35 +39,35 @@ abbrev octet-of : tie.At-loop Inv-loop μ-loop → ℕ
 octet-of l = start l .args .k .0
 
 -- where a character was read: the loop's head, and the character
-abbrev head : tie.After-reading Inv-loop μ-loop → tie.At-loop Inv-loop μ-loop
-head c = c .before .before .before .before
+abbrev head : tie.After-read-valid Inv-loop μ-loop → tie.At-loop Inv-loop μ-loop
+head c = c .before .before
 
-abbrev read : tie.After-reading Inv-loop μ-loop → Character
-read c = character (c .reading .given .0 .0 .0) (c .reading .given .0 .1 .0)
+abbrev read : tie.After-read-valid Inv-loop μ-loop → Character
+read c = character (c .read-valid .result .code .0) (c .read-valid .result .width)
 
-decoded : (c : tie.After-reading Inv-loop μ-loop) → decode (drop (head c .loop .at) (text-of (head c))) ≡ some (read c)
-decoded c = sym (c .before .before .read-character .ensures) ∙ ap readingTold (c .reading .given .1)
+decoded : (c : tie.After-read-valid Inv-loop μ-loop) → decode (drop (head c .loop .at) (text-of (head c))) ≡ some (read c)
+decoded c = sym (c .read-valid .ensures)
 
 -- the character is within the text
-fits : (c : tie.After-reading Inv-loop μ-loop) → let l = head c in
+fits : (c : tie.After-read-valid Inv-loop μ-loop) → let l = head c in
     (1 ≤ read c .width) × (l .loop .at + read c .width ≤ length (text-of l))
 fits c =
     let l = head c in
-    decode-drop-fits (text-of l) (l .loop .at) (read c) (omega (arith, c .before .before .before .loop-test .taken)) (decoded c)
+    decode-drop-fits (text-of l) (l .loop .at) (read c) (omega (arith, c .before .loop-test .taken)) (decoded c)
 
 -- before the first character
 loop-holds : tie.Need-loop-holds Inv-loop μ-loop
 loop-holds c = walking-start _ _ _ _ (c .before .before .before .pre .1)
 
-read-character-requires : tie.Need-read-character-requires Inv-loop μ-loop
-read-character-requires c κs = search needs
-
-enum-known-reading : tie.Need-enum-known-reading Inv-loop μ-loop
-enum-known-reading c = search needs
+-- a character follows
+read-valid-requires : tie.Need-read-valid-requires Inv-loop μ-loop
+read-valid-requires c κs =
+    let l = c .before in
+    there-next (text-of l) (l .loop .at) (l .loop .inv .ahead .valid) (c .loop-test .taken)
 
 -- the table is accepted
 size-expansion-requires : tie.Need-size-expansion-requires Inv-loop μ-loop
-size-expansion-requires c κs = start (head (c .before)) .pre .0
+size-expansion-requires c κs = start (head c) .pre .0
 
 add-holder-at : tie.Need-add-holder-at Inv-loop μ-loop
 add-holder-at c =
@@ -81,12 +80,13 @@ holder-at-requires c κs = search needs
 -- this character holds the octet
 returns : tie.Need-returns Inv-loop μ-loop
 returns c =
-    let sized = c .before .before in
-    let r = sized .before .before in
+    let tested = c .before .before in
+    let sized = tested .before in
+    let r = sized .before in
     let l = head r in
     rw (c .holder-at .ensures)
     (walking-found (mapping l) (text-of l) (from-of l) (octet-of l) (l .loop .at) (l .loop .left) (l .loop .inv) (read r) (decoded r)
-    (omega (arith, c .before .if1 .taken, sized .size-expansion .ensures .octets)))
+    (omega (arith, tested .if1 .taken, sized .size-expansion .ensures .octets)))
 
 add-at : tie.Need-add-at Inv-loop μ-loop
 add-at c =
@@ -101,36 +101,19 @@ loop-less c =
 -- a later character holds the octet
 loop-again : tie.Need-loop-again Inv-loop μ-loop
 loop-again c =
-    let sized = c .before in
-    let r = sized .before .before in
+    let tested = c .before in
+    let sized = tested .before in
+    let r = sized .before in
     let l = head r in
     walking-more (mapping l) (text-of l) (from-of l) (octet-of l) (l .loop .at) (l .loop .left) (l .loop .inv) (read r) (decoded r)
-    (sized .size-expansion .result .octets) (sized .size-expansion .ensures .octets) (c .if1 .left)
-
-enum-told : tie.Need-enum-told Inv-loop μ-loop
-enum-told c = search needs
+    (sized .size-expansion .result .octets) (sized .size-expansion .ensures .octets) (tested .if1 .left)
 
 holder-at-requires-2 : tie.Need-holder-at-requires-2 Inv-loop μ-loop
 holder-at-requires-2 c κs = search needs
 
--- no character: never so
+-- the end of the text: never so
 returns-2 : tie.Need-returns-2 Inv-loop μ-loop
 returns-2 c =
-    let told = c .before in
-    let called = told .before .before in
-    let l = called .before .before in
-    let e : decode (drop (l .loop .at) (text-of l)) ≡ none =
-    sym (called .read-character .ensures) ∙ ap readingTold (told .enum-told .given .1) in
-    absurd
-    (walking-stop (mapping l) (text-of l) (from-of l) (octet-of l) (l .loop .at) (l .loop .left) (l .loop .inv)
-    (called .before .loop-test .taken) e)
-
-holder-at-requires-3 : tie.Need-holder-at-requires-3 Inv-loop μ-loop
-holder-at-requires-3 c κs = search needs
-
--- the end of the text: never so
-returns-3 : tie.Need-returns-3 Inv-loop μ-loop
-returns-3 c =
     let l = c .before .before in
     absurd
     (walking-done (mapping l) (text-of l) (from-of l) (octet-of l) (l .loop .at) (l .loop .left) (l .loop .inv)
@@ -143,8 +126,7 @@ find-holder-spec =
     Inv-loop
     μ-loop
     loop-holds
-    read-character-requires
-    enum-known-reading
+    read-valid-requires
     size-expansion-requires
     add-holder-at
     holder-at-requires
@@ -152,8 +134,5 @@ find-holder-spec =
     add-at
     loop-less
     loop-again
-    enum-told
     holder-at-requires-2
-    returns-2
-    holder-at-requires-3
-    returns-3)
+    returns-2)
