@@ -140,6 +140,7 @@ static void print_times(void) {
         {"Latin names, keys, buffer of 4 times", "ns/name", 1, run_keys, &inputs.latin, none, SHORT_GROWTH},
         {"Latin names, equality", "ns/pair", 1, run_equality, &inputs.latin, none, KEY_GROWTH},
         {"names of many scripts, keys", "ns/name", 1, run_keys, &inputs.mixed, none, KEY_GROWTH},
+        {"many scripts, keys, buffer of 4 times", "ns/name", 1, run_keys, &inputs.mixed, none, SHORT_GROWTH},
         {"names of many scripts, equality", "ns/pair", 1, run_equality, &inputs.mixed, none, KEY_GROWTH},
         {"text of many scripts, 4,096 octets", "us", 1e3, run_text, NULL, mixed_text, KEY_GROWTH},
         {"English prose, 4,096 octets", "us", 1e3, run_text, NULL, prose, KEY_GROWTH},
