@@ -197,7 +197,7 @@ fn size_unfolded(
     ensures { λ r. ⌜ FullCounted (mappingOf (now (entries .entry)) (now (pool .entry))) «levels_left» (c .0) r ⌝ }
 {
     let mut octets = 0;
-    let mut asks: u64 = 1;
+    let mut asked: u64 = 1;
     let mut i = 0;
     while i < parts.len() {
         let part = CodePoint(parts[i]);
@@ -205,15 +205,18 @@ fn size_unfolded(
         // Most parts are whole, and a call costs more than counting one.
         if inner.len() == 0 {
             octets += utf8::octet_count(part);
-            asks += 1;
+            asked += 1;
         } else {
             let sized = size_unfolded(levels_left - 1, part, inner, entries, pool);
             octets += sized.octets;
-            asks += sized.asks;
+            asked += sized.asks;
         }
         i += 1;
     }
-    Unfolded { octets, asks }
+    Unfolded {
+        octets,
+        asks: asked,
+    }
 }
 
 // Writes the full decomposition of a code point that has these parts, at the start of a slice that has room for it.

@@ -1,6 +1,6 @@
 -- `decompose::size_unfolded` meets its contract. It calls itself for each part that decomposes, one level down; the measure of the
 -- recursion is the levels left. The loop's invariant: the parts so far come to `octets` octets and, with the ask for the parts, to
--- `asks` asks (`Sizing`). The loop's measure is the number of parts that are left. Assumes nothing.
+-- `asked` asks (`Sizing`). The loop's measure is the number of parts that are left. Assumes nothing.
 use Prim.Native.Nat.{ℕ, _+_, _-_, _≤_, _<_}
 use native.Mathlib.Omega.{arith}
 use mathlib.Core.Logic.{⊎-elim}
@@ -37,11 +37,11 @@ abbrev claims : ℕ → lts.Claims
 claims t = (parts-of-reads.Asked, parts-of-reads.Learnt, octet-count-reads.Asked, octet-count-reads.Learnt, below t, reads.Post)
 
 abbrev Inv-loop : lts.InvT-loop
-Inv-loop levels-left parts entries pool octets₀ asks₀ i₀ octets asks i =
-    Sizing (mappingOf entries pool) (levels-left - 1) parts octets asks i
+Inv-loop levels-left parts entries pool octets₀ asked₀ i₀ octets asked i =
+    Sizing (mappingOf entries pool) (levels-left - 1) parts octets asked i
 
 abbrev μ-loop : lts.MeasureT-loop
-μ-loop levels-left parts entries pool octets₀ asks₀ i₀ octets asks i = length parts - i
+μ-loop levels-left parts entries pool octets₀ asked₀ i₀ octets asked i = length parts - i
 
 -- a need, or a place of the code, at the measure t
 abbrev Of : ℕ → (lts.Claims → In 3 kinds.ps → Out 3 kinds.ps kinds.r → lts.InvT-loop → lts.MeasureT-loop → Type 0) → Type 0
@@ -78,13 +78,13 @@ more : (t : ℕ) (c : Of t lts.After-parts-of) (r : Unfolded) → Part t c r
     let s = start t c in
     Sizing (mapping t s) (s .args .levels-left - 1) (s .args .parts .now)
     (l .loop .octets + r .octets)
-    (l .loop .asks + r .asks)
+    (l .loop .asked + r .asks)
     (l .loop .i + 1)
 more t c r part =
     let l = head t c in
     let s = start t c in
     sizing-more (mapping t s) (s .args .levels-left - 1) (s .args .parts .now)
-    (l .loop .octets) (l .loop .asks) (l .loop .i) r (l .loop .inv) (c .before .before .loop-test .taken) part
+    (l .loop .octets) (l .loop .asked) (l .loop .i) r (l .loop .inv) (c .before .before .loop-test .taken) part
 
 -- the octets are at most 128, and the asks at most 257
 octets-most : (t : ℕ) (c : Of t lts.After-parts-of) (r : Unfolded) → Part t c r → head t c .loop .octets + r .octets ≤ 128
@@ -96,7 +96,7 @@ octets-most t c r part =
       bounded-octets (mapping t s) (s .args .levels-left) (s .args .c .0) (s .pre .1 .1 .1 .1),
     )
 
-asks-few : (t : ℕ) (c : Of t lts.After-parts-of) (r : Unfolded) → Part t c r → head t c .loop .asks + r .asks ≤ 257
+asks-few : (t : ℕ) (c : Of t lts.After-parts-of) (r : Unfolded) → Part t c r → head t c .loop .asked + r .asks ≤ 257
 asks-few t c r part =
     let s = start t c in
     omega (
@@ -140,8 +140,8 @@ octet-count-requires t c κs = search needs
 add-octets : (t : ℕ) → Of t lts.Need-add-octets
 add-octets t c = omega (arith, octets-most t (c .before .before) (one t c) (whole t c))
 
-add-asks : (t : ℕ) → Of t lts.Need-add-asks
-add-asks t c = omega (arith, asks-few t (c .before .before) (one t c) (whole t c))
+add-asked : (t : ℕ) → Of t lts.Need-add-asked
+add-asked t c = omega (arith, asks-few t (c .before .before) (one t c) (whole t c))
 
 -- a level is left
 sub-size-unfolded : (t : ℕ) → Of t lts.Need-sub-size-unfolded
@@ -171,8 +171,8 @@ add-octets-2 t c =
     let called = c .before in
     omega (arith, octets-most t (called .before .before) (called .size-unfolded .result) (called .size-unfolded .ensures))
 
-add-asks-2 : (t : ℕ) → Of t lts.Need-add-asks-2
-add-asks-2 t c =
+add-asked-2 : (t : ℕ) → Of t lts.Need-add-asked-2
+add-asked-2 t c =
     let called = c .before .before in
     omega (arith, asks-few t (called .before .before) (called .size-unfolded .result) (called .size-unfolded .ensures))
 
@@ -215,11 +215,11 @@ pub +size-unfolded-spec : {M : Type 1} → statement M
     (parts-of-requires t)
     (octet-count-requires t)
     (add-octets t)
-    (add-asks t)
+    (add-asked t)
     (sub-size-unfolded t)
     (size-unfolded-requires t)
     (add-octets-2 t)
-    (add-asks-2 t)
+    (add-asked-2 t)
     (add-i t)
     (loop-less t)
     (loop-again t)
