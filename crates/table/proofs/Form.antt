@@ -75,11 +75,7 @@ form-formed es pool f =
 pub sound-entries : (es pool : List ℕ) → faultySize es pool ≡ false → entryCount es ≤ entriesMost
 sound-entries es pool e = ltb-false entriesMost (entryCount es) (or-right (not (eqb (length es % 4) 0)) _ (or-left _ _ e))
 
--- an entry that 4 passes has a scalar code point
-pub sound-code : (es : List ℕ) (i : ℕ) → faultyCode es i ≡ false → scalar (codeAt es i) ≡ true
-sound-code es i e = not-false _ (or-left _ _ (or-left _ _ e))
-
--- and a scalar titlecase
+-- an entry that 4 passes has a scalar titlecase
 pub sound-title : (es : List ℕ) (i : ℕ) → faultyCode es i ≡ false → scalar (titleAt es i) ≡ true
 sound-title es i e = not-false _ (or-right (not (scalar (codeAt es i))) _ (or-left _ _ e))
 
@@ -102,19 +98,11 @@ module _ (es pool : List ℕ) (form : formRefusal es pool ≡ none) where
       leb-false (codeAt es (suc i)) (codeAt es i)
       (or-right (not (scalar (codeAt es (suc i))) || not (scalar (titleAt es (suc i)))) _ (formed es pool form .codes (suc i) l))
 
-  -- it has at most 16,384 entries
-  pub formed-entries : entryCount es ≤ entriesMost
-  formed-entries = sound-entries es pool (formed es pool form .size)
-
   -- the parts of an entry lie in the pool
   pub formed-fits : (i : ℕ) → i < entryCount es → startAt es i + countAt es i ≤ length pool
   formed-fits i l = sound-fits es pool i (formed es pool form .entries i l)
 
-  -- the code point of an entry is scalar
-  pub formed-code : (i : ℕ) → i < entryCount es → scalar (codeAt es i) ≡ true
-  formed-code i l = sound-code es i (formed es pool form .codes i l)
-
-  -- and its titlecase
+  -- the titlecase of an entry is scalar
   pub formed-title : (i : ℕ) → i < entryCount es → scalar (titleAt es i) ≡ true
   formed-title i l = sound-title es i (formed es pool form .codes i l)
 

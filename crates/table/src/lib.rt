@@ -79,7 +79,8 @@ pub fn parts_of<'a>(entries: &[u32], pool: &'a [u32], c: CodePoint) -> &'a [u32]
 {
     let sought = c.0;
     let count = within_reach(entries, sought);
-    // Below the first entry, as the capitals A to Z are, there is nothing to search for.
+    // A capital A to Z is below the first entry. Not by find_entry: with two callers find_around is compiled apart, and this
+    // is inlined.
     if count == 0 {
         return &pool[..0];
     }
