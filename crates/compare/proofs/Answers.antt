@@ -1,39 +1,39 @@
 -- An answer of equality or order is fixed by its numbers.
 -- Assumes nothing.
 use mathlib.Core.Path.{_≡_, refl}
-use Rattle.compare.specs.Compare.{equalityTold, orderTold}
+use Rattle.compare.specs.Compare.{equalityOutcome, orderOutcome}
 use Rattle.compare.specs.declared.Equality.{Equality}
 use Rattle.compare.specs.declared.Equality.the-variants.{Match, NoMatch, Refused}
 use Rattle.compare.specs.declared.Ordered.{Ordered}
 use Rattle.compare.specs.declared.Ordered.the-variants.{Less, Equal, Greater, Refused as Unordered}
 
 -- equality with the same numbers is the same answer
-pub equalityTold-inj : (x y : Equality) → equalityTold x ≡ equalityTold y → x ≡ y
-equalityTold-inj Match Match e = refl
-equalityTold-inj Match NoMatch e = cc
-equalityTold-inj Match (Refused s) e = cc
-equalityTold-inj NoMatch Match e = cc
-equalityTold-inj NoMatch NoMatch e = refl
-equalityTold-inj NoMatch (Refused s) e = cc
-equalityTold-inj (Refused r) Match e = cc
-equalityTold-inj (Refused r) NoMatch e = cc
-equalityTold-inj (Refused r) (Refused s) e = cc
+pub equalityOutcome-inj : (x y : Equality) → equalityOutcome x ≡ equalityOutcome y → x ≡ y
+equalityOutcome-inj Match Match e = refl
+equalityOutcome-inj Match NoMatch e = cc
+equalityOutcome-inj Match (Refused s) e = cc
+equalityOutcome-inj NoMatch Match e = cc
+equalityOutcome-inj NoMatch NoMatch e = refl
+equalityOutcome-inj NoMatch (Refused s) e = cc
+equalityOutcome-inj (Refused r) Match e = cc
+equalityOutcome-inj (Refused r) NoMatch e = cc
+equalityOutcome-inj (Refused r) (Refused s) e = cc
 
 -- order with the same numbers is the same answer
-pub orderTold-inj : (x y : Ordered) → orderTold x ≡ orderTold y → x ≡ y
-orderTold-inj Less Less e = refl
-orderTold-inj Less Equal e = cc
-orderTold-inj Less Greater e = cc
-orderTold-inj Less (Unordered s) e = cc
-orderTold-inj Equal Less e = cc
-orderTold-inj Equal Equal e = refl
-orderTold-inj Equal Greater e = cc
-orderTold-inj Equal (Unordered s) e = cc
-orderTold-inj Greater Less e = cc
-orderTold-inj Greater Equal e = cc
-orderTold-inj Greater Greater e = refl
-orderTold-inj Greater (Unordered s) e = cc
-orderTold-inj (Unordered r) Less e = cc
-orderTold-inj (Unordered r) Equal e = cc
-orderTold-inj (Unordered r) Greater e = cc
-orderTold-inj (Unordered r) (Unordered s) e = cc
+pub orderOutcome-inj : (x y : Ordered) → orderOutcome x ≡ orderOutcome y → x ≡ y
+orderOutcome-inj Less Less e = refl
+orderOutcome-inj Less Equal e = cc
+orderOutcome-inj Less Greater e = cc
+orderOutcome-inj Less (Unordered s) e = cc
+orderOutcome-inj Equal Less e = cc
+orderOutcome-inj Equal Equal e = refl
+orderOutcome-inj Equal Greater e = cc
+orderOutcome-inj Equal (Unordered s) e = cc
+orderOutcome-inj Greater Less e = cc
+orderOutcome-inj Greater Equal e = cc
+orderOutcome-inj Greater Greater e = refl
+orderOutcome-inj Greater (Unordered s) e = cc
+orderOutcome-inj (Unordered r) Less e = cc
+orderOutcome-inj (Unordered r) Equal e = cc
+orderOutcome-inj (Unordered r) Greater e = cc
+orderOutcome-inj (Unordered r) (Unordered s) e = cc

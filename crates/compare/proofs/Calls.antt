@@ -5,7 +5,7 @@ use mathlib.Core.Path.{_≡_, refl, _∙_}
 use Prim.Native.Nat.{ℕ, Ordering, Ordering·lt, Ordering·eq, Ordering·gt}
 use mathlib.Core.Option.{Option, none, some}
 use mathlib.Core.List.{List, [], _∷_}
-use Rattle.terms.specs.Refusals.{answer, given}
+use Rattle.terms.specs.Refusals.{answer, gives}
 use Rattle.terms.specs.declared.Refusal.{Refusal}
 use Rattle.table.specs.Table.{mappingOf}
 use Rattle.prepare.specs.Calls.{shownAt, compareRefusal}
@@ -15,15 +15,15 @@ use Rattle.prepare.specs.declared.PreparedPair.{PreparedPair}
 use Rattle.prepare.specs.declared.PreparedPair.the-variants.{Both, Refused as Neither}
 use Rattle.prepare.proofs.Shown.{shown-both, shown-neither}
 use Rattle.compare.specs.KeyOrder.{orderOf}
-use Rattle.compare.specs.Compare.{equalityTold, orderTold, orderNumber, equalityNumber, textOrder}
+use Rattle.compare.specs.Compare.{equalityOutcome, orderOutcome, orderNumber, equalityNumber, textOrder}
 use Rattle.compare.specs.Promises.{equalityBy, Equals, Orders}
 use Rattle.compare.specs.declared.Ordered.{Ordered}
 use Rattle.compare.specs.declared.Ordered.the-variants.{Less, Equal, Greater, Refused as Unordered}
 
 -- the answers of order and of equality by it: the same refusal, and a match where the order is a tie
 pub equality-by-order : (r : Ordered) (x : Option Refusal) (o : Ordering)
-    → orderTold r ≡ answer x (orderNumber o ∷ [])
-    → equalityTold (equalityBy r) ≡ answer x (equalityNumber o ∷ [])
+    → orderOutcome r ≡ answer x (orderNumber o ∷ [])
+    → equalityOutcome (equalityBy r) ≡ answer x (equalityNumber o ∷ [])
 equality-by-order Less (some x) o e = cc
 equality-by-order Less none Ordering·lt e = refl
 equality-by-order Less none Ordering·eq e = cc
@@ -43,8 +43,8 @@ module _ (k : ℕ) (s t es pool sBuffer tBuffer sAfter tAfter : List ℕ) where
   module _ (p : PreparedPair) (h : PreparesTwo k s t es pool sBuffer tBuffer p sAfter tAfter) where
     -- two texts were prepared, and what they show was ordered
     pub orders-shown : (one two : Summary) (r : Ordered) → p ≡ Both one two
-        → orderTold r
-        ≡ given (orderNumber (orderOf (shownAt (one .place) (one .«key_length») s sAfter) (shownAt (two .place) (two .«key_length») t tAfter)) ∷ [])
+        → orderOutcome r
+        ≡ gives (orderNumber (orderOf (shownAt (one .place) (one .«key_length») s sAfter) (shownAt (two .place) (two .«key_length») t tAfter)) ∷ [])
         → Orders k s t es pool sBuffer tBuffer r sAfter tAfter
     orders-shown one two r e told =
         let shown = shown-both k s t es pool sBuffer tBuffer p sAfter tAfter h one two e in

@@ -25,7 +25,7 @@ use Rattle.compare.specs.declared.Equality.{Equality}
 use Rattle.compare.specs.declared.Equality.the-variants.{Match}
 use Rattle.compare.specs.declared.Ordered.{Ordered}
 use Rattle.compare.specs.declared.Ordered.the-variants.{Less, Equal, Greater}
-use Rattle.compare.proofs.Answers.{equalityTold-inj, orderTold-inj}
+use Rattle.compare.proofs.Answers.{equalityOutcome-inj, orderOutcome-inj}
 use Rattle.compare.proofs.KeyOrder.{AtMost, at-most-trans, at-most-total}
 use Rattle.compare.proofs.Says.{OrderSays, EqualSays, orderedBy, flipped, orderedBy-told, orderedBy-decided, orderedBy-equal, orderedBy-match, orderedBy-less, orderedBy-greater, orderedBy-flip, order-unrefused, equal-unrefused}
 use Rattle.compare.proofs.TextOrder.{text-order-tie, text-order-same, text-order-flip, text-order-trans}
@@ -35,14 +35,14 @@ module _ {k : ℕ} {es pool s t : List ℕ} where
   pub answers-keys : {r : Ordered} → OrderSays k es pool s t r → r ≡ orderedBy (textOrder k (mappingOf es pool) s t)
   answers-keys {r} c =
       let o = textOrder k (mappingOf es pool) s t in
-      orderTold-inj r (orderedBy o) (rw (order-unrefused c) at (c .call .answered) ∙ sym (orderedBy-told o))
+      orderOutcome-inj r (orderedBy o) (rw (order-unrefused c) at (c .call .answered) ∙ sym (orderedBy-told o))
 
   -- `equal` answers by it
   pub matches-keys : {r : Equality} → EqualSays k es pool s t r
       → r ≡ equalityBy (orderedBy (textOrder k (mappingOf es pool) s t))
   matches-keys {r} c =
       let o = textOrder k (mappingOf es pool) s t in
-      equalityTold-inj r (equalityBy (orderedBy o))
+      equalityOutcome-inj r (equalityBy (orderedBy o))
       (rw (equal-unrefused c) at (c .call .answered) ∙ sym (orderedBy-decided o))
 
   -- ---- ties

@@ -4,11 +4,11 @@ use mathlib.Core.Path.{_≡_, refl}
 use Prim.Native.Nat.{ℕ, Ordering, Ordering·lt, Ordering·eq, Ordering·gt}
 use mathlib.Core.Option.{Option, none}
 use mathlib.Core.List.{List, [], _∷_}
-use Rattle.terms.specs.Refusals.{answer, given}
+use Rattle.terms.specs.Refusals.{answer, gives}
 use Rattle.terms.specs.declared.Refusal.{Refusal}
 use Rattle.prepare.specs.Calls.{compareRefusal}
 use Rattle.terms.proofs.Checks.{answer-given}
-use Rattle.compare.specs.Compare.{equalityTold, orderTold, orderNumber, equalityNumber}
+use Rattle.compare.specs.Compare.{equalityOutcome, orderOutcome, orderNumber, equalityNumber}
 use Rattle.compare.specs.Promises.{equalityBy, Equals, Orders}
 use Rattle.compare.specs.declared.Equality.{Equality}
 use Rattle.compare.specs.declared.Equality.the-variants.{Match, NoMatch, Refused}
@@ -92,12 +92,12 @@ flipped Equal = Equal
 flipped Greater = Less
 flipped (Unordered r) = Unordered r
 
-pub orderedBy-told : (o : Ordering) → orderTold (orderedBy o) ≡ given (orderNumber o ∷ [])
+pub orderedBy-told : (o : Ordering) → orderOutcome (orderedBy o) ≡ gives (orderNumber o ∷ [])
 orderedBy-told Ordering·lt = refl
 orderedBy-told Ordering·eq = refl
 orderedBy-told Ordering·gt = refl
 
-pub orderedBy-decided : (o : Ordering) → equalityTold (equalityBy (orderedBy o)) ≡ given (equalityNumber o ∷ [])
+pub orderedBy-decided : (o : Ordering) → equalityOutcome (equalityBy (orderedBy o)) ≡ gives (equalityNumber o ∷ [])
 orderedBy-decided Ordering·lt = refl
 orderedBy-decided Ordering·eq = refl
 orderedBy-decided Ordering·gt = refl
@@ -128,13 +128,13 @@ orderedBy-flip Ordering·eq = refl
 orderedBy-flip Ordering·gt = refl
 
 -- what is not a refusal was refused by nothing
-pub order-none : (r : Ordered) (x : Option Refusal) (vs : List ℕ) → OrderTaken r → orderTold r ≡ answer x vs → x ≡ none
+pub order-none : (r : Ordered) (x : Option Refusal) (vs : List ℕ) → OrderTaken r → orderOutcome r ≡ answer x vs → x ≡ none
 order-none Less x vs h e = answer-given x vs (1 ∷ []) e
 order-none Equal x vs h e = answer-given x vs (2 ∷ []) e
 order-none Greater x vs h e = answer-given x vs (3 ∷ []) e
 order-none (Unordered r) x vs h e = absurd h
 
-pub equality-none : (r : Equality) (x : Option Refusal) (vs : List ℕ) → EqualityTaken r → equalityTold r ≡ answer x vs → x ≡ none
+pub equality-none : (r : Equality) (x : Option Refusal) (vs : List ℕ) → EqualityTaken r → equalityOutcome r ≡ answer x vs → x ≡ none
 equality-none Match x vs h e = answer-given x vs (1 ∷ []) e
 equality-none NoMatch x vs h e = answer-given x vs (2 ∷ []) e
 equality-none (Refused r) x vs h e = absurd h

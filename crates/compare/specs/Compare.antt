@@ -4,7 +4,7 @@ use Prim.Native.Nat.{ℕ, Ordering, Ordering·lt, Ordering·eq, Ordering·gt}
 use mathlib.Core.List.{List, [], _∷_}
 use lib.Dec.{isEq}
 use mathlib.Core.Bool.{cond}
-use Rattle.terms.specs.Refusals.{answer, Told, refused, given}
+use Rattle.terms.specs.Refusals.{answer, Outcome, refused, gives}
 use Rattle.table.specs.Mapping.{Mapping}
 use Rattle.table.specs.Table.{mappingOf}
 use Rattle.prepare.specs.Keys.{keyOf}
@@ -18,17 +18,17 @@ use Rattle.compare.specs.declared.Ordered.the-variants.{Less, Equal, Gre
 -- ---- the answers in the paper's numbers
 
 -- equality: 1 match, 2 no-match
-abbrev pub equalityTold : Equality → Told
-equalityTold Match = given (1 ∷ [])
-equalityTold NoMatch = given (2 ∷ [])
-equalityTold (Refused r) = refused r
+abbrev pub equalityOutcome : Equality → Outcome
+equalityOutcome Match = gives (1 ∷ [])
+equalityOutcome NoMatch = gives (2 ∷ [])
+equalityOutcome (Refused r) = refused r
 
 -- order: 1 less, 2 equal, 3 greater
-abbrev pub orderTold : Ordered → Told
-orderTold Less = given (1 ∷ [])
-orderTold Equal = given (2 ∷ [])
-orderTold Greater = given (3 ∷ [])
-orderTold (Unordered r) = refused r
+abbrev pub orderOutcome : Ordered → Outcome
+orderOutcome Less = gives (1 ∷ [])
+orderOutcome Equal = gives (2 ∷ [])
+orderOutcome Greater = gives (3 ∷ [])
+orderOutcome (Unordered r) = refused r
 
 -- the number of an order of keys
 abbrev pub orderNumber : Ordering → ℕ
@@ -47,11 +47,11 @@ abbrev pub textOrder : ℕ → Mapping → List ℕ → List ℕ → Ordering
 textOrder k m s t = orderOf (keyOf k m s) (keyOf k m t)
 
 -- what equality of two texts answers
-abbrev pub equalAnswer : ℕ → List ℕ → List ℕ → List ℕ → List ℕ → List ℕ → List ℕ → Told
+abbrev pub equalAnswer : ℕ → List ℕ → List ℕ → List ℕ → List ℕ → List ℕ → List ℕ → Outcome
 equalAnswer k s t es pool sBuffer tBuffer =
     answer (compareRefusal k s t es pool sBuffer tBuffer) (equalityNumber (textOrder k (mappingOf es pool) s t) ∷ [])
 
 -- what order of two texts answers
-abbrev pub orderAnswer : ℕ → List ℕ → List ℕ → List ℕ → List ℕ → List ℕ → List ℕ → Told
+abbrev pub orderAnswer : ℕ → List ℕ → List ℕ → List ℕ → List ℕ → List ℕ → List ℕ → Outcome
 orderAnswer k s t es pool sBuffer tBuffer =
     answer (compareRefusal k s t es pool sBuffer tBuffer) (orderNumber (textOrder k (mappingOf es pool) s t) ∷ [])

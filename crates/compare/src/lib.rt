@@ -7,10 +7,10 @@ use terms::Refusal;
 ghost use mathlib.Core.Path.{_≡_};
 ghost use mathlib.Core.List.{[], _∷_};
 ghost use mathlib.Core.Option.{none};
-ghost use Rattle.terms.specs.Refusals.{given};
+ghost use Rattle.terms.specs.Refusals.{gives};
 ghost use Rattle.prepare.specs.Calls.{tableUnder, shownAt};
 ghost use Rattle.compare.specs.KeyOrder.{orderOf};
-ghost use Rattle.compare.specs.Compare.{orderTold, orderNumber};
+ghost use Rattle.compare.specs.Compare.{orderOutcome, orderNumber};
 ghost use Rattle.compare.specs.Promises.{equalityBy, Equals, Orders};
 
 // Whether two texts are equal under a collation.
@@ -153,7 +153,7 @@ fn order_shown<'a, 'b>(
     second_key: &'b [u8],
     two: Summary,
 ) -> Ordered
-    ensures { λ r. ⌜ orderTold r ≡ given (orderNumber (orderOf (shownAt (one .place) (one .«key_length») (now (first .entry)) (now («first_key» .entry))) (shownAt (two .place) (two .«key_length») (now (second .entry)) (now («second_key» .entry)))) ∷ []) ⌝ }
+    ensures { λ r. ⌜ orderOutcome r ≡ gives (orderNumber (orderOf (shownAt (one .place) (one .«key_length») (now (first .entry)) (now («first_key» .entry))) (shownAt (two .place) (two .«key_length») (now (second .entry)) (now («second_key» .entry)))) ∷ []) ⌝ }
 {
     let a = prepare::shown_part(first, first_key, one);
     let b = prepare::shown_part(second, second_key, two);
@@ -162,7 +162,7 @@ fn order_shown<'a, 'b>(
 
 // The order of two keys: octet by octet, unsigned; a proper prefix is less.
 pub fn order_octets(a: &[u8], b: &[u8]) -> Ordered
-    ensures { λ r. ⌜ orderTold r ≡ given (orderNumber (orderOf (now (a .entry)) (now (b .entry))) ∷ []) ⌝ }
+    ensures { λ r. ⌜ orderOutcome r ≡ gives (orderNumber (orderOf (now (a .entry)) (now (b .entry))) ∷ []) ⌝ }
 {
     let mut i = 0;
     while i < a.len() {

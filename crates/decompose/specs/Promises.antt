@@ -22,9 +22,9 @@ abbrev pub measured : Mapping → ℕ → ℕ → ℕ → Option ℕ
 measured m n room c = when (within m n c && leb (length (full m n c)) room) (length (full m n c))
 
 -- the number of a measurement
-abbrev pub measurementTold : Measurement → Option ℕ
-measurementTold (Fits k) = some k
-measurementTold TooMuch = none
+abbrev pub measuredSize : Measurement → Option ℕ
+measuredSize (Fits k) = some k
+measuredSize TooMuch = none
 
 -- a code point unfolds within n of the 8 levels into at most 32 code points: what unfolding it asks for
 pub record Bounded (m : Mapping) (n c : ℕ) : Type 0 where

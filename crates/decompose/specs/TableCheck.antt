@@ -7,7 +7,7 @@ use mathlib.Core.List.{List, [], _∷_}
 use lib.Dec.{leb}
 use lib.ListN.{length}
 use Rattle.terms.specs.Lists.{lowest}
-use Rattle.terms.specs.Refusals.{levelsMost, fullMost, first, answer, Told}
+use Rattle.terms.specs.Refusals.{levelsMost, fullMost, first, answer, Outcome}
 use Rattle.terms.specs.declared.Refusal.{Refusal}
 use Rattle.table.specs.Mapping.{Mapping}
 use Rattle.table.specs.Table.{entryCount, codeAt, refusedAt, formRefusal, mappingOf}
@@ -26,5 +26,5 @@ unfoldable pub tableRefusal : List ℕ → List ℕ → Option Refusal
 tableRefusal es pool = first (formRefusal es pool ∷ refusedAt 7 (lowest (faultyLevel es pool) (entryCount es)) ∷ [])
 
 -- what checking a table by itself answers
-abbrev pub tableAnswer : List ℕ → List ℕ → Told
+abbrev pub tableAnswer : List ℕ → List ℕ → Outcome
 tableAnswer es pool = answer (tableRefusal es pool) []

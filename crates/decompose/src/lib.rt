@@ -19,11 +19,11 @@ ghost use Rattle.terms.specs.Lists.{lowest};
 ghost use Rattle.terms.specs.Refusals.{answer};
 ghost use Rattle.utf8.specs.Utf8.{encodes};
 ghost use Rattle.table.specs.Table.{entryCount, titleAt, refusedAt, formRefusal, entryOf, partsOf, mappingOf};
-ghost use Rattle.table.specs.Promises.{checkTold};
+ghost use Rattle.table.specs.Promises.{checkOutcome};
 ghost use Rattle.decompose.specs.Levels.{full};
 ghost use Rattle.decompose.specs.Steps.{expanded};
 ghost use Rattle.decompose.specs.TableCheck.{faultyLevel, tableRefusal, tableAnswer};
-ghost use Rattle.decompose.specs.Promises.{measured, measurementTold, Bounded, FullCounted, FullFilled, ExpansionCounted, ExpansionFilled};
+ghost use Rattle.decompose.specs.Promises.{measured, measuredSize, Bounded, FullCounted, FullFilled, ExpansionCounted, ExpansionFilled};
 
 // How many code points a code point unfolds into.
 pub enum Measurement {
@@ -40,7 +40,7 @@ pub struct Unfolded {
 
 // Whether a table is accepted, or which of 3 to 7 refuses it.
 pub fn check_table(entries: &[u32], pool: &[u32]) -> TableCheck
-    ensures { λ r. ⌜ checkTold r ≡ tableAnswer (now (entries .entry)) (now (pool .entry)) ⌝ }
+    ensures { λ r. ⌜ checkOutcome r ≡ tableAnswer (now (entries .entry)) (now (pool .entry)) ⌝ }
 {
     let form = table::check_form(entries, pool);
     match form {
@@ -114,7 +114,7 @@ fn title_parts<'a>(c: CodePoint, i: usize, entries: &[u32], pool: &'a [u32]) -> 
 // Whether 7 refuses a table of the form.
 fn check_levels(entries: &[u32], pool: &[u32]) -> TableCheck
     requires { ⌜ formRefusal (now entries) (now pool) ≡ none ⌝ }
-    ensures { λ r. ⌜ checkTold r ≡ answer (refusedAt 7 (lowest (faultyLevel (now (entries .entry)) (now (pool .entry))) (entryCount (now (entries .entry))))) [] ⌝ }
+    ensures { λ r. ⌜ checkOutcome r ≡ answer (refusedAt 7 (lowest (faultyLevel (now (entries .entry)) (now (pool .entry))) (entryCount (now (entries .entry))))) [] ⌝ }
 {
     let mut i = 0;
     while i < entries.len() / 4 {
@@ -150,7 +150,7 @@ fn measure(
     requires { ⌜ formRefusal (now entries) (now pool) ≡ none ⌝ }
     requires { ⌜ now parts ≡ partsOf (now entries) (now pool) (c .0) ⌝ }
     requires { ⌜ 0 < length (now parts) ⌝ }
-    ensures { λ r. ⌜ measurementTold r ≡ measured (mappingOf (now (entries .entry)) (now (pool .entry))) «levels_left» room (c .0) ⌝ }
+    ensures { λ r. ⌜ measuredSize r ≡ measured (mappingOf (now (entries .entry)) (now (pool .entry))) «levels_left» room (c .0) ⌝ }
 {
     if levels_left == 0 {
         return Measurement::TooMuch;

@@ -1,6 +1,6 @@
 -- The three demands, each sentence with the theorems that render it.
 -- A theorem is about a public call. It takes the call's contract, which `rt check` proves of the code: `Prepares`, `Equals`,
--- `Orders`, `Seeks` and `Added`, and of `check_table` the equation `checkTold r ≡ tableAnswer es pool`. It says the sentence of
+-- `Orders`, `Seeks` and `Added`, and of `check_table` the equation `checkOutcome r ≡ tableAnswer es pool`. It says the sentence of
 -- the answer r and of the slices afterwards. The `_accepted` calls have the same contracts, so it holds of them too.
 -- Beside the definitions of specs/: `OrderSays` and `EqualSays`, the contracts of `order` and `equal` with an answer that is no
 -- refusal, stand in crates/compare/proofs/Says.antt, `Covers` in crates/search/proofs/Cover.antt, and `Sound` and
@@ -14,7 +14,7 @@ use mathlib.Core.Option.{Option, none, some}
 use mathlib.Core.List.{List, [], _∷_, map}
 use lib.ListN.{length}
 use Rattle.terms.specs.Lists.{there, lowest}
-use Rattle.terms.specs.Refusals.{refusal, first, given}
+use Rattle.terms.specs.Refusals.{refusal, first, gives}
 use Rattle.terms.specs.declared.Refusal.{Refusal}
 use Rattle.terms.specs.declared.KeyPosition.{KeyPosition}
 use Rattle.terms.specs.declared.TextPosition.{TextPosition}
@@ -22,43 +22,43 @@ use Rattle.terms.proofs.Checks.{orElse-none, orElse-assoc, answer-given, answer
 use Rattle.utf8.specs.Utf8.{Character, characters}
 use Rattle.table.specs.Mapping.{Mapping}
 use Rattle.table.specs.Table.{entryCount, refusedAt, formChecks, formRefusal, titleOf, partsOf, mappingOf}
-use Rattle.table.specs.Promises.{checkTold}
+use Rattle.table.specs.Promises.{checkOutcome}
 use Rattle.table.specs.declared.TableCheck.{TableCheck}
 use Rattle.table.specs.declared.TableCheck.the-variants.{Accepted, Refused as TableRefused}
-use Rattle.table.proofs.Answers.{checkTold-inj}
+use Rattle.table.proofs.Answers.{checkOutcome-inj}
 use Rattle.decompose.specs.Steps.{stepsKey}
 use Rattle.decompose.specs.TableCheck.{faultyLevel, tableRefusal, tableAnswer}
 use Rattle.decompose.proofs.Demand3.{UnfoldsWell, Sound, accepted-exactly, accepted-level, accepted-lookups, accepted-key}
 use Rattle.prepare.specs.Keys.{upper, prepared, keyOf, roomFor}
-use Rattle.prepare.specs.Calls.{Lent, callRefusal, preparationTold, prepareRefusal, shownKey, compareRefusal}
+use Rattle.prepare.specs.Calls.{Lent, callRefusal, preparationOutcome, prepareRefusal, shownKey, compareRefusal}
 use Rattle.prepare.specs.Promises.{Prepares}
 use Rattle.prepare.specs.declared.Summary.{Summary}
 use Rattle.prepare.specs.declared.Preparation.{Preparation}
 use Rattle.prepare.specs.declared.Preparation.the-variants.{Prepared, Refused as PrepareRefused}
-use Rattle.prepare.proofs.Answers.{preparationTold-inj}
+use Rattle.prepare.proofs.Answers.{preparationOutcome-inj}
 use Rattle.prepare.proofs.Validity.{key-valid, key-invalid}
-use Rattle.compare.specs.Compare.{equalityTold, orderTold}
+use Rattle.compare.specs.Compare.{equalityOutcome, orderOutcome}
 use Rattle.compare.specs.Promises.{Equals, Orders}
 use Rattle.compare.specs.declared.Equality.{Equality}
 use Rattle.compare.specs.declared.Equality.the-variants.{Match, Refused as EqualRefused}
 use Rattle.compare.specs.declared.Ordered.{Ordered}
 use Rattle.compare.specs.declared.Ordered.the-variants.{Less, Equal, Greater, Refused as OrderRefused}
-use Rattle.compare.proofs.Answers.{equalityTold-inj, orderTold-inj}
+use Rattle.compare.proofs.Answers.{equalityOutcome-inj, orderOutcome-inj}
 use Rattle.compare.proofs.Says.{OrderSays, EqualSays, flipped}
 use Rattle.compare.proofs.Preorder.{matches-tie, matches-valid, answers-tie, answers-match, answers-refl, answers-flip, answers-trans, answers-total, answers-valid}
 use Rattle.search.specs.Covering.{Span, span}
-use Rattle.search.specs.Substring.{substringTold, substringValues}
+use Rattle.search.specs.Substring.{substringOutcome, substringValues}
 use Rattle.search.specs.Promises.{Seeks}
 use Rattle.search.specs.declared.Sought.{Sought}
 use Rattle.search.specs.declared.Sought.the-variants.{Match as Found, NoMatch, Refused as SoughtRefused}
-use Rattle.search.proofs.Answers.{substringTold-inj}
+use Rattle.search.proofs.Answers.{substringOutcome-inj}
 use Rattle.search.proofs.Cover.{Covers}
-use Rattle.ucd.specs.Builder.{Built, said, lineTold, stateTold, Added}
+use Rattle.ucd.specs.Builder.{Built, said, lineOutcome, stateAfter, Added}
 use Rattle.ucd.specs.Built.{startOf, cutEntries, cutPool, refusalOf, acceptedOf, Accepts, saidMapping}
 use Rattle.ucd.specs.declared.LineState.{LineState}
 use Rattle.ucd.specs.declared.Line.{Line}
 use Rattle.ucd.specs.declared.Line.the-variants.{Refused as LineRefused}
-use Rattle.ucd.proofs.Answers.{lineTold-inj}
+use Rattle.ucd.proofs.Answers.{lineOutcome-inj}
 use Rattle.ucd.proofs.Accepted.{addLine-refused}
 use Rattle.ucd.proofs.BuiltForm.{built-form}
 use Rattle.ucd.proofs.BuiltMapping.{mappingOf-built, built-line, built-other}
@@ -105,37 +105,37 @@ compare-first k s t es pool sBuffer tBuffer x =
     simp (orElse-none, orElse-assoc) (simp orElse-none at (first-applies (compareChecks k s t es pool sBuffer tBuffer) x))
 
 -- `check_table` refuses exactly as document 01 says
-pub check-refused : (es pool : List ℕ) {r : TableCheck} → checkTold r ≡ tableAnswer es pool
+pub check-refused : (es pool : List ℕ) {r : TableCheck} → checkOutcome r ≡ tableAnswer es pool
     → (x : Refusal) → (r ≡ TableRefused x) ↔ (tableRefusal es pool ≡ some x)
-check-refused es pool {r} h = refused-exactly checkTold checkTold-inj TableRefused (λ x. refl) r (tableRefusal es pool) [] h
+check-refused es pool {r} h = refused-exactly checkOutcome checkOutcome-inj TableRefused (λ x. refl) r (tableRefusal es pool) [] h
 
 -- `prepare` does
 pub prepare-refused : {k : ℕ} {text es pool buffer after : List ℕ} {r : Preparation} → Prepares k text es pool buffer r after
     → (x : Refusal) → (r ≡ PrepareRefused x) ↔ (prepareRefusal k text es pool buffer ≡ some x)
-prepare-refused {r} h = refused-exactly preparationTold preparationTold-inj PrepareRefused (λ x. refl) r _ _ (h .answered)
+prepare-refused {r} h = refused-exactly preparationOutcome preparationOutcome-inj PrepareRefused (λ x. refl) r _ _ (h .answered)
 
 module _ {k : ℕ} {s t es pool sBuffer tBuffer sAfter tAfter : List ℕ} where
   -- `equal` does
   pub equal-refused : {r : Equality} → Equals k s t es pool sBuffer tBuffer r sAfter tAfter
       → (x : Refusal) → (r ≡ EqualRefused x) ↔ (compareRefusal k s t es pool sBuffer tBuffer ≡ some x)
-  equal-refused {r} h = refused-exactly equalityTold equalityTold-inj EqualRefused (λ x. refl) r _ _ (h .answered)
+  equal-refused {r} h = refused-exactly equalityOutcome equalityOutcome-inj EqualRefused (λ x. refl) r _ _ (h .answered)
 
   -- `order` does
   pub order-refused : {r : Ordered} → Orders k s t es pool sBuffer tBuffer r sAfter tAfter
       → (x : Refusal) → (r ≡ OrderRefused x) ↔ (compareRefusal k s t es pool sBuffer tBuffer ≡ some x)
-  order-refused {r} h = refused-exactly orderTold orderTold-inj OrderRefused (λ x. refl) r _ _ (h .answered)
+  order-refused {r} h = refused-exactly orderOutcome orderOutcome-inj OrderRefused (λ x. refl) r _ _ (h .answered)
 
   -- `substring` does
   pub substring-refused : {r : Sought} → Seeks k s t es pool sBuffer tBuffer r sAfter tAfter
       → (x : Refusal) → (r ≡ SoughtRefused x) ↔ (compareRefusal k s t es pool sBuffer tBuffer ≡ some x)
-  substring-refused {r} h = refused-exactly substringTold substringTold-inj SoughtRefused (λ x. refl) r _ _ (h .answered)
+  substring-refused {r} h = refused-exactly substringOutcome substringOutcome-inj SoughtRefused (λ x. refl) r _ _ (h .answered)
 
 -- `add_line` does, and gives back the state that came in
 pub line-refused : {b : Built} {line es pool : List ℕ} {r : Line} → Added b line r es pool
     → (x : Refusal) → (r ≡ LineRefused x (b .state)) ↔ (refusalOf b line ≡ some x)
 line-refused {b} {line} {r} h x = (
-  λ e. answer-refused (refusalOf b line) _ x (ap lineTold (sym e) ∙ h .answered),
-  λ e. lineTold-inj r (LineRefused x (b .state)) (rw e at (h .answered))
+  λ e. answer-refused (refusalOf b line) _ x (ap lineOutcome (sym e) ∙ h .answered),
+  λ e. lineOutcome-inj r (LineRefused x (b .state)) (rw e at (h .answered))
       (h .state ∙ ap (λ (c : Built). c .state) (addLine-refused b line x e)),
 )
 
@@ -195,9 +195,9 @@ module _ {k : ℕ} {s t es pool sBuffer tBuffer sAfter tAfter : List ℕ} where
 pub line-kept : {b : Built} {line es pool : List ℕ} {r : Line} → Added b line r es pool
     → (x : Refusal) (st : LineState) → r ≡ LineRefused x st → (st ≡ b .state) × ((es ≡ b .entries) × (pool ≡ b .pool))
 line-kept {b} {line} h x st e =
-    let o : refusalOf b line ≡ some x = answer-refused (refusalOf b line) _ x (ap lineTold (sym e) ∙ h .answered) in
+    let o : refusalOf b line ≡ some x = answer-refused (refusalOf b line) _ x (ap lineOutcome (sym e) ∙ h .answered) in
     let stays = addLine-refused b line x o in
-    (ap stateTold (sym e) ∙ rw stays at (h .state), (rw stays at (h .entries), rw stays at (h .pool)))
+    (ap stateAfter (sym e) ∙ rw stays at (h .state), (rw stays at (h .entries), rw stays at (h .pool)))
 
 -- ================================================================ Demand 2
 
@@ -282,10 +282,10 @@ module _ {es pool s t : List ℕ} (apart : there (characters s) ≡ there (chara
 
 -- substring, where it is not refused
 module _ {k : ℕ} {s t es pool sBuffer tBuffer sAfter tAfter : List ℕ} {r : Sought}
-    (h : Seeks k s t es pool sBuffer tBuffer r sAfter tAfter) (answers : Given (substringTold r)) where
-  told : substringTold r ≡ given (substringValues k (mappingOf es pool) s t)
+    (h : Seeks k s t es pool sBuffer tBuffer r sAfter tAfter) (answers : Given (substringOutcome r)) where
+  told : substringOutcome r ≡ gives (substringValues k (mappingOf es pool) s t)
   told =
-      given-values (substringTold r) (compareRefusal k s t es pool sBuffer tBuffer) (substringValues k (mappingOf es pool) s t)
+      given-values (substringOutcome r) (compareRefusal k s t es pool sBuffer tBuffer) (substringValues k (mappingOf es pool) s t)
       (h .answered) answers
 
   -- there is no match exactly when the first text's key occurs nowhere in the second's
@@ -307,13 +307,13 @@ module _ {k : ℕ} {s t es pool sBuffer tBuffer sAfter tAfter : List ℕ} {r : S
 
 -- an empty first text is found at 0, 0, 0, 0
 pub substring-empty : {k : ℕ} {t es pool sBuffer tBuffer sAfter tAfter : List ℕ} {r : Sought}
-    → Seeks k [] t es pool sBuffer tBuffer r sAfter tAfter → Given (substringTold r)
+    → Seeks k [] t es pool sBuffer tBuffer r sAfter tAfter → Given (substringOutcome r)
     → r ≡ Found (record { 0 = 0 }) (record { 0 = 0 }) (record { 0 = 0 }) (record { 0 = 0 })
 substring-empty {k} {t} {es} {pool} {r} h answers = match-empty k (mappingOf es pool) t r (told h answers)
 
 -- under collation 3, in a valid text
 module _ {s t es pool sBuffer tBuffer sAfter tAfter : List ℕ} {r : Sought}
-    (h : Seeks 3 s t es pool sBuffer tBuffer r sAfter tAfter) (answers : Given (substringTold r))
+    (h : Seeks 3 s t es pool sBuffer tBuffer r sAfter tAfter) (answers : Given (substringOutcome r))
     (text : 0 < length s) {a b : KeyPosition} {c d : TextPosition} (e : r ≡ Found a b c d)
     {chs : List Character} (valid : characters t ≡ some chs) where
   -- the run is one of whole characters, and covers the occurrence
@@ -350,7 +350,7 @@ module _ {es pool : List ℕ} {lines : List (List ℕ)} {b : Built} (g : Grows (
 
 -- ================================================================ Demand 3
 
-module _ (es pool : List ℕ) {r : TableCheck} (h : checkTold r ≡ tableAnswer es pool) where
+module _ (es pool : List ℕ) {r : TableCheck} (h : checkOutcome r ≡ tableAnswer es pool) where
   -- ---- "A table is accepted exactly when it has document 01's form and every code point in it unfolds within 8 levels into at
   -- most 32 code points."
 
@@ -358,7 +358,7 @@ module _ (es pool : List ℕ) {r : TableCheck} (h : checkTold r ≡ tableAnswer 
   pub check-accepts : (r ≡ Accepted) ↔ Sound es pool
   check-accepts = (
     λ e. accepted-exactly es pool .0 (passes e),
-    λ sound. checkTold-inj r Accepted (rw (accepted-exactly es pool .1 sound) at h),
+    λ sound. checkOutcome-inj r Accepted (rw (accepted-exactly es pool .1 sound) at h),
   )
     where
       passes : r ≡ Accepted → tableRefusal es pool ≡ none

@@ -9,7 +9,7 @@ use mathlib.Core.Logic.{_↔_}
 use mathlib.Core.Option.{Option, none, some}
 use mathlib.Core.List.{List, [], _∷_}
 use lib.ListN.{length}
-use Rattle.terms.specs.Refusals.{given}
+use Rattle.terms.specs.Refusals.{gives}
 use Rattle.terms.specs.declared.KeyPosition.{KeyPosition}
 use Rattle.terms.specs.declared.TextPosition.{TextPosition}
 use Rattle.table.specs.Mapping.{Mapping}
@@ -18,10 +18,10 @@ use Rattle.prepare.specs.Keys.{keyOf}
 use Rattle.occurrence.specs.Occurrence.{occurrence}
 use Rattle.occurrence.proofs.Laws.{occurrence-some, occurrence-none, occurrence-is, occurrence-nowhere}
 use Rattle.search.specs.Covering.{Span, span}
-use Rattle.search.specs.Substring.{substringTold, runIn, textRun, foundValues, substringValues}
+use Rattle.search.specs.Substring.{substringOutcome, runIn, textRun, foundValues, substringValues}
 use Rattle.search.specs.declared.Sought.{Sought}
 use Rattle.search.specs.declared.Sought.the-variants.{Match, NoMatch}
-use Rattle.search.proofs.Answers.{substringTold-inj}
+use Rattle.search.proofs.Answers.{substringOutcome-inj}
 use Rattle.search.proofs.Seeking.{textRun-unicode, textRun-other}
 use Rattle.search.proofs.Cover.{Covers, hit-covers, hit-least}
 use Rattle.demands.specs.Demands.{Stands, Hit}
@@ -38,15 +38,15 @@ span-same : (a b : Span) → a .start ≡ b .start → a .end ≡ b .end → a �
 span-same a b p q = λ i. record { start = p i; end = q i }
 
 module _ (k : ℕ) (m : Mapping) (s t : List ℕ) (r : Sought) (text : 0 < length s)
-    (e : substringTold r ≡ given (substringValues k m s t)) where
+    (e : substringOutcome r ≡ gives (substringValues k m s t)) where
   abbrev needle : List ℕ
   needle = keyOf k m s
 
   abbrev hay : List ℕ
   hay = keyOf k m t
 
-  told : (o : Option ℕ) → occurrence needle hay ≡ o → substringTold r ≡ given (foundValues k m t (length needle) o)
-  told o f = e ∙ ap given (values-some k m s t text ∙ ap (foundValues k m t (length needle)) f)
+  told : (o : Option ℕ) → occurrence needle hay ≡ o → substringOutcome r ≡ gives (foundValues k m t (length needle) o)
+  told o f = e ∙ ap gives (values-some k m s t text ∙ ap (foundValues k m t (length needle)) f)
 
   -- a hit with its four numbers is the first occurrence
   hit-is : (a b : KeyPosition) (c d : TextPosition) → r ≡ Match a b c d → Hit k m s t (a .0) (b .0) (c .0) (d .0)
@@ -78,7 +78,7 @@ module _ (k : ℕ) (m : Mapping) (s t : List ℕ) (r : Sought) (text : 0 < lengt
       let same = rw (sym (h .upto)) at (told (some (a .0)) found) in
       let start : c .0 ≡ textRun k m t (span (a .0) (b .0)) .start = ap (λ (x : Span). x .start) (h .run) in
       let end : d .0 ≡ textRun k m t (span (a .0) (b .0)) .end = ap (λ (x : Span). x .end) (h .run) in
-      substringTold-inj r (Match a b c d) (cc)
+      substringOutcome-inj r (Match a b c d) (cc)
 
   -- a hit is the first occurrence, with its run
   pub match-exactly : (a b : KeyPosition) (c d : TextPosition) → (r ≡ Match a b c d) ↔ Hit k m s t (a .0) (b .0) (c .0) (d .0)
@@ -88,7 +88,7 @@ module _ (k : ℕ) (m : Mapping) (s t : List ℕ) (r : Sought) (text : 0 < lengt
   pub none-exactly : (r ≡ NoMatch) ↔ ((i : ℕ) → Stands (keyOf k m s) (keyOf k m t) i → ⊥)
   none-exactly = (
     λ q. go q (occurrence needle hay) refl,
-    λ nowhere. substringTold-inj r NoMatch (told none (occurrence-nowhere needle hay nowhere)),
+    λ nowhere. substringOutcome-inj r NoMatch (told none (occurrence-nowhere needle hay nowhere)),
   )
     where
       go : r ≡ NoMatch → (o : Option ℕ) → occurrence needle hay ≡ o → (i : ℕ) → Stands needle hay i → ⊥
@@ -96,10 +96,10 @@ module _ (k : ℕ) (m : Mapping) (s t : List ℕ) (r : Sought) (text : 0 < lengt
       go q (some i) f = let z : _≡_ {A = ℕ} 1 2 = cc (rw q at (told (some i) f)) in absurd (omega arith)
 
 -- an empty text is found at 0, 0, 0, 0
-pub match-empty : (k : ℕ) (m : Mapping) (t : List ℕ) (r : Sought) → substringTold r ≡ given (substringValues k m [] t)
+pub match-empty : (k : ℕ) (m : Mapping) (t : List ℕ) (r : Sought) → substringOutcome r ≡ gives (substringValues k m [] t)
     → r ≡ Match (record { 0 = 0 }) (record { 0 = 0 }) (record { 0 = 0 }) (record { 0 = 0 })
 unfolding substringValues
-match-empty k m t r e = substringTold-inj r _ e
+match-empty k m t r e = substringOutcome-inj r _ e
 
 -- ---- the run
 

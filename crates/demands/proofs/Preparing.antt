@@ -9,7 +9,7 @@ use lib.Dec.{ltb}
 use lib.ListN.{length}
 use borrow.Author.Tests.{ltb-true}
 use Rattle.terms.specs.Lists.{orElse}
-use Rattle.terms.specs.Refusals.{refusal, check, given}
+use Rattle.terms.specs.Refusals.{refusal, check, gives}
 use Rattle.terms.specs.declared.Refusal.{Refusal}
 use Rattle.terms.proofs.Checks.{orElse-neither, answer-given, answer-refused}
 use Rattle.terms.proofs.Tests.{none-some}
@@ -19,7 +19,7 @@ use Rattle.utf8.specs.Utf8.{Character, characters}
 use Rattle.decompose.specs.Steps.{stepsKey}
 use Rattle.decompose.specs.TableCheck.{tableRefusal}
 use Rattle.prepare.specs.Keys.{Prepared as Key, unicodePrepared, prepared, keyOf}
-use Rattle.prepare.specs.Calls.{lent, roomChecks, summaryTold, preparedValues, prepareRefusal, shownKey}
+use Rattle.prepare.specs.Calls.{lent, roomChecks, summaryNumbers, preparedValues, prepareRefusal, shownKey}
 use Rattle.prepare.specs.Promises.{Prepares}
 use Rattle.prepare.specs.declared.Preparation.{Preparation}
 use Rattle.prepare.specs.declared.Preparation.the-variants.{Prepared, Refused}
@@ -39,10 +39,10 @@ check-some false n p d x e = absurd (none-some x e)
 module _ {k : ℕ} {text es pool buffer after : List ℕ} {r : Preparation} (h : Prepares k text es pool buffer r after) where
   -- a text that was prepared was not refused
   pub unrefused : (s : Summary) → r ≡ Prepared s → prepareRefusal k text es pool buffer ≡ none
-  unrefused s e = answer-given _ _ (summaryTold s) (rw e at (h .answered))
+  unrefused s e = answer-given _ _ (summaryNumbers s) (rw e at (h .answered))
 
   -- and its numbers are the prepared text's
-  numbers-are : (s : Summary) → r ≡ Prepared s → summaryTold s ≡ preparedValues (prepared k (mappingOf es pool) text)
+  numbers-are : (s : Summary) → r ≡ Prepared s → summaryNumbers s ≡ preparedValues (prepared k (mappingOf es pool) text)
   numbers-are s e = let told = rw (unrefused s e) at (rw e at (h .answered)) in cc
 
   -- it shows its key
@@ -82,5 +82,5 @@ module _ {text es pool buffer after : List ℕ} {r : Preparation} (h : Prepares 
       let m = mappingOf es pool in
       let is : prepareRefusal 3 text es pool buffer ≡ some x = answer-refused _ _ x (rw e at (h .answered)) in
       let rooms = rw (prepared-valid m text chs valid) at (eight-rooms 3 (lent text buffer ∷ []) es pool x is n) in
-      let given = check-some (ltb (length buffer) (length (stepsKey m chs))) 8 1 (length (stepsKey m chs)) x rooms in
-      record { names = given .1; shorter = ltb-true (length buffer) (length (stepsKey m chs)) (given .0) }
+      let gives = check-some (ltb (length buffer) (length (stepsKey m chs))) 8 1 (length (stepsKey m chs)) x rooms in
+      record { names = gives .1; shorter = ltb-true (length buffer) (length (stepsKey m chs)) (gives .0) }

@@ -7,7 +7,7 @@ use mathlib.Core.Option.{Option, none, some}
 use mathlib.Core.List.{List, [], _∷_, _++_}
 use lib.ListN.{replicate}
 use Rattle.terms.specs.Lists.{orElse}
-use Rattle.terms.specs.Refusals.{first, answer, Told, refused, given}
+use Rattle.terms.specs.Refusals.{first, answer, Outcome, refused, gives}
 use Rattle.terms.specs.declared.Refusal.{Refusal}
 use Rattle.terms.proofs.Checks.{orElse-assoc, answer-given, answer-refused}
 use Rattle.terms.proofs.Tests.{none-some}
@@ -38,7 +38,7 @@ first-append (x ∷ xs) ys = rw (orElse-assoc x (first xs) (first ys), first-app
 -- ---- an answer and its numbers
 
 -- an answer is a refusal exactly when that is the call's
-pub refused-exactly : {A : Type 0} (told : A → Told) → ((a b : A) → told a ≡ told b → a ≡ b)
+pub refused-exactly : {A : Type 0} (told : A → Outcome) → ((a b : A) → told a ≡ told b → a ≡ b)
     → (refuses : Refusal → A) → ((x : Refusal) → told (refuses x) ≡ refused x)
     → (r : A) (o : Option Refusal) (vs : List ℕ) → told r ≡ answer o vs
     → (x : Refusal) → (r ≡ refuses x) ↔ (o ≡ some x)
@@ -48,6 +48,6 @@ refused-exactly told inj refuses is r o vs e x = (
 )
 
 -- one that is no refusal gives the call's values
-pub given-values : (a : Told) (o : Option Refusal) (vs : List ℕ) → a ≡ answer o vs → Given a → a ≡ given vs
-given-values (given ws) o vs e g = rw (answer-given o vs ws e) at e
+pub given-values : (a : Outcome) (o : Option Refusal) (vs : List ℕ) → a ≡ answer o vs → Given a → a ≡ gives vs
+given-values (gives ws) o vs e g = rw (answer-given o vs ws e) at e
 given-values (refused x) o vs e g = absurd g

@@ -9,7 +9,7 @@ use mathlib.Core.Option.{Option, none, some}
 use mathlib.Core.List.{List, [], _∷_, _++_}
 use lib.ListN.{length, take, drop, replicate}
 use Rattle.terms.specs.Lists.{lowest}
-use Rattle.terms.specs.Refusals.{refusal, first, Told, refused, given}
+use Rattle.terms.specs.Refusals.{refusal, first, Outcome, refused, gives}
 use Rattle.terms.specs.declared.Refusal.{Refusal}
 use Rattle.table.specs.Mapping.{Mapping}
 use Rattle.table.specs.Table.{entryCount, refusedAt, formChecks, mappingOf}
@@ -21,16 +21,16 @@ use Rattle.prepare.specs.Calls.{Lent, collationCheck, lengthCheck, lengthChecks
 use Rattle.prepare.specs.declared.Summary.{Summary}
 use Rattle.search.specs.Covering.{span}
 use Rattle.search.specs.Substring.{textRun}
-use Rattle.ucd.specs.Builder.{Built, stateTold, Added}
+use Rattle.ucd.specs.Builder.{Built, stateAfter, Added}
 use Rattle.ucd.specs.Promises.{built}
 use Rattle.ucd.specs.declared.Line.{Line}
 
 -- ---- refusals
 
 -- an answer in the paper's numbers is no refusal
-abbrev pub Given : Told → Type 0
+abbrev pub Given : Outcome → Type 0
 Given (refused x) = ⊥
-Given (given values) = Unit {0}
+Given (gives values) = Unit {0}
 
 -- "the first that applies is given": a check of the row gives x, and those before it give nothing
 pub record FirstApplies (checks : List (Option Refusal)) (x : Refusal) : Type 0 where
@@ -104,7 +104,7 @@ pub data Grows : Built → List (List ℕ) → Built → Type 0 where
   start : {b : Built} → Grows b [] b
   call : {b c : Built} {line : List ℕ} {lines : List (List ℕ)} {r : Line} {es pool : List ℕ}
       → Added b line r es pool
-      → Grows (built (stateTold r) es pool) lines c
+      → Grows (built (stateAfter r) es pool) lines c
       → Grows b (line ∷ lines) c
 
 -- ---- preparation

@@ -4,7 +4,7 @@
 use mathlib.Core.Path.{_≡_}
 use Prim.Native.Nat.{ℕ}
 use mathlib.Core.List.{List, _∷_}
-use Rattle.terms.specs.Refusals.{Told, refused, given, row}
+use Rattle.terms.specs.Refusals.{Outcome, refused, gives, row}
 use Rattle.prepare.specs.Calls.{prepareAnswer, prepareLeaves, firstLeaves, secondLeaves}
 use Rattle.ucd.specs.Builder.{Built, addLine, lineAnswer, stateNumbers}
 use Rattle.ucd.specs.declared.LineState.{LineState}
@@ -18,7 +18,7 @@ pub record TextPrepared (k : ℕ) (text es pool buffer answer after : List ℕ) 
 
 -- what a comparing call answers, by its collation, both texts, the table and both key buffers
 abbrev pub Comparison : Type 0
-Comparison = ℕ → List ℕ → List ℕ → List ℕ → List ℕ → List ℕ → List ℕ → Told
+Comparison = ℕ → List ℕ → List ℕ → List ℕ → List ℕ → List ℕ → List ℕ → Outcome
 
 -- two texts were compared: the row of an answer of n values, and both key buffers
 pub record TextsCompared (n : ℕ) (told : Comparison) (k : ℕ) (s t es pool sBuffer tBuffer answer sAfter tAfter : List ℕ)
@@ -35,9 +35,9 @@ stateOf entries pool next = record { «entries_used» = entries; «pool_used» =
 
 -- the row of a line: it begins as every row does, with number (0 if not refused), place and detail; the state that comes back
 -- follows on a refusal too
-abbrev pub lineRow : Told → LineState → List ℕ
+abbrev pub lineRow : Outcome → LineState → List ℕ
 lineRow (refused r) st = r .number ∷ r .place ∷ r .detail ∷ stateNumbers st
-lineRow (given values) st = 0 ∷ 0 ∷ 0 ∷ stateNumbers st
+lineRow (gives values) st = 0 ∷ 0 ∷ 0 ∷ stateNumbers st
 
 -- a line was added: its row, and both slices
 pub record LineAdded (b : Built) (line answer esAfter poolAfter : List ℕ) : Type 0 where

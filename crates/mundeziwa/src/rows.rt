@@ -8,16 +8,16 @@ use table::TableCheck;
 use ucd::Line;
 ghost use mathlib.Core.Path.{_≡_};
 ghost use Rattle.terms.specs.Refusals.{row};
-ghost use Rattle.table.specs.Promises.{checkTold};
-ghost use Rattle.prepare.specs.Calls.{truth, placeTold, preparationTold};
-ghost use Rattle.compare.specs.Compare.{equalityTold, orderTold};
-ghost use Rattle.search.specs.Substring.{substringTold};
-ghost use Rattle.ucd.specs.Builder.{lineTold, stateTold};
+ghost use Rattle.table.specs.Promises.{checkOutcome};
+ghost use Rattle.prepare.specs.Calls.{truth, placeNumber, preparationOutcome};
+ghost use Rattle.compare.specs.Compare.{equalityOutcome, orderOutcome};
+ghost use Rattle.search.specs.Substring.{substringOutcome};
+ghost use Rattle.ucd.specs.Builder.{lineOutcome, stateAfter};
 ghost use Rattle.mundeziwa.specs.Promises.{lineRow};
 
 // The row of a table check.
 pub fn check_row(check: TableCheck) -> [u64; 3]
-    ensures { λ r. ⌜ r ≡ row 0 (checkTold check) ⌝ }
+    ensures { λ r. ⌜ r ≡ row 0 (checkOutcome check) ⌝ }
 {
     match check {
         TableCheck::Accepted => [0, 0, 0],
@@ -27,7 +27,7 @@ pub fn check_row(check: TableCheck) -> [u64; 3]
 
 // The row of a preparation: valid, lookups, length of the key, where it stands.
 pub fn preparation_row(preparation: Preparation) -> [u64; 7]
-    ensures { λ r. ⌜ r ≡ row 4 (preparationTold preparation) ⌝ }
+    ensures { λ r. ⌜ r ≡ row 4 (preparationOutcome preparation) ⌝ }
 {
     match preparation {
         Preparation::Prepared(s) => {
@@ -42,7 +42,7 @@ pub fn preparation_row(preparation: Preparation) -> [u64; 7]
 
 // The row of an equality: 1 match, 2 no-match.
 pub fn equality_row(equality: Equality) -> [u64; 4]
-    ensures { λ r. ⌜ r ≡ row 1 (equalityTold equality) ⌝ }
+    ensures { λ r. ⌜ r ≡ row 1 (equalityOutcome equality) ⌝ }
 {
     match equality {
         Equality::Match => [0, 0, 0, 1],
@@ -53,7 +53,7 @@ pub fn equality_row(equality: Equality) -> [u64; 4]
 
 // The row of an order: 1 less, 2 equal, 3 greater.
 pub fn order_row(ordered: Ordered) -> [u64; 4]
-    ensures { λ r. ⌜ r ≡ row 1 (orderTold ordered) ⌝ }
+    ensures { λ r. ⌜ r ≡ row 1 (orderOutcome ordered) ⌝ }
 {
     match ordered {
         Ordered::Less => [0, 0, 0, 1],
@@ -65,7 +65,7 @@ pub fn order_row(ordered: Ordered) -> [u64; 4]
 
 // The row of a substring answer: 1 match, 2 no-match; start and end in the key, start and end in the text.
 pub fn substring_row(sought: Sought) -> [u64; 8]
-    ensures { λ r. ⌜ r ≡ row 5 (substringTold sought) ⌝ }
+    ensures { λ r. ⌜ r ≡ row 5 (substringOutcome sought) ⌝ }
 {
     match sought {
         Sought::Match {
@@ -90,7 +90,7 @@ pub fn substring_row(sought: Sought) -> [u64; 8]
 
 // The row of a line: the state that comes back, on a refusal too.
 pub fn line_row(line: Line) -> [u64; 6]
-    ensures { λ r. ⌜ r ≡ lineRow (lineTold line) (stateTold line) ⌝ }
+    ensures { λ r. ⌜ r ≡ lineRow (lineOutcome line) (stateAfter line) ⌝ }
 {
     match line {
         Line::Taken(after) => [
@@ -121,7 +121,7 @@ fn truth_number(b: bool) -> u64
 
 // Where a key stands, as a number: 0 it is the text, 1 the start of the buffer.
 fn place_number(place: KeyPlace) -> u64
-    ensures { λ r. ⌜ r ≡ placeTold place ⌝ }
+    ensures { λ r. ⌜ r ≡ placeNumber place ⌝ }
 {
     match place {
         KeyPlace::Text => 0,

@@ -6,6 +6,6 @@ use Rattle.occurrence.specs.declared.Occurrence.{Occurrence}
 use Rattle.occurrence.specs.declared.Occurrence.the-variants.{At, Nowhere}
 
 -- the place that was found, if there is one
-abbrev pub occurrenceTold : Occurrence → Option ℕ
-occurrenceTold (At p) = some (p .0)
-occurrenceTold Nowhere = none
+abbrev pub placeFound : Occurrence → Option ℕ
+placeFound (At p) = some (p .0)
+placeFound Nowhere = none

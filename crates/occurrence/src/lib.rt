@@ -11,7 +11,7 @@ mod rows;
 use terms::KeyPosition;
 ghost use mathlib.Core.Path.{_≡_};
 ghost use Rattle.occurrence.specs.Occurrence.{occurrence};
-ghost use Rattle.occurrence.specs.Promises.{occurrenceTold};
+ghost use Rattle.occurrence.specs.Promises.{placeFound};
 
 // Where the needle stands, if it stands anywhere.
 pub enum Occurrence {
@@ -21,7 +21,7 @@ pub enum Occurrence {
 
 // The lowest place of the hay from which the needle stands.
 pub fn find(needle: &[u8], hay: &[u8]) -> Occurrence
-    ensures { λ r. ⌜ occurrenceTold r ≡ occurrence (now (needle .entry)) (now (hay .entry)) ⌝ }
+    ensures { λ r. ⌜ placeFound r ≡ occurrence (now (needle .entry)) (now (hay .entry)) ⌝ }
 {
     let mut periods = [0usize; rows::ROWS_MOST];
     let mut reaches = [0usize; rows::ROWS_MOST];

@@ -8,7 +8,7 @@ use terms::KeyPosition;
 ghost use mathlib.Core.Path.{_≡_};
 ghost use Rattle.occurrence.specs.Rows.{Noted};
 ghost use Rattle.occurrence.specs.Occurrence.{occurrence};
-ghost use Rattle.occurrence.specs.Promises.{occurrenceTold};
+ghost use Rattle.occurrence.specs.Promises.{placeFound};
 
 // The lowest place of the hay from which the needle stands, by the needle's rows.
 pub fn search(
@@ -19,7 +19,7 @@ pub fn search(
     count: usize,
 ) -> Occurrence
     requires { ⌜ Noted (now needle) (now periods) (now reaches) count ⌝ }
-    ensures { λ r. ⌜ occurrenceTold r ≡ occurrence (now (needle .entry)) (now (hay .entry)) ⌝ }
+    ensures { λ r. ⌜ placeFound r ≡ occurrence (now (needle .entry)) (now (hay .entry)) ⌝ }
 {
     let m = needle.len();
     if hay.len() < m {

@@ -4,7 +4,7 @@ use mathlib.Core.Path.{_≡_, refl}
 use mathlib.Core.Option.{some}
 use mathlib.Core.List.{[], _∷_, _++_}
 use Rattle.terms.specs.Lists.{lowest}
-use Rattle.terms.specs.Refusals.{refusal, refused, given}
+use Rattle.terms.specs.Refusals.{refusal, refused, gives}
 use Rattle.pairing.specs.Pairing.{firstText, secondText, pairRefusal}
 use Rattle.pairing.specs.Words.{decimalBy, decimal, less, equal, greater, refusedWord, pairsWord, wordsOf, answerLine, countLine, tableLine}
 
@@ -20,7 +20,7 @@ unfolding lowest
 no-tab = (refl, refl)
 
 -- the words of each answer
-pub words : (wordsOf (given (1 ∷ [])) ≡ less) × (wordsOf (given (2 ∷ [])) ≡ equal) × (wordsOf (given (3 ∷ [])) ≡ greater)
+pub words : (wordsOf (gives (1 ∷ [])) ≡ less) × (wordsOf (gives (2 ∷ [])) ≡ equal) × (wordsOf (gives (3 ∷ [])) ≡ greater)
 words = (refl, refl, refl)
 
 -- `refused 2`, `pairs 4`, `pairs 0`, `table refused 27`

@@ -8,7 +8,7 @@ use mathlib.Core.List.{List}
 use lib.ListN.{length, take, drop}
 use borrow.Author.Tests.{lt-ltb, le-ltb}
 use Rattle.terms.specs.Refusals.{refusal, refused}
-use Rattle.compare.specs.Compare.{orderTold}
+use Rattle.compare.specs.Compare.{orderOutcome}
 use Rattle.compare.specs.Promises.{Orders}
 use Rattle.compare.specs.declared.Ordered.{Ordered}
 use Rattle.pairing.specs.Pairing.{pairMost, tabOf, pairAnswer, pairFirstLeaves, pairSecondLeaves}
@@ -16,7 +16,7 @@ use Rattle.pairing.specs.Promises.{Judges}
 
 module _ (line es pool firstBuffer secondBuffer : List ℕ) (r : Ordered) where
   -- a line over 8,193 octets
-  pub judges-long : pairMost < length line → orderTold r ≡ refused (refusal 2 0 0)
+  pub judges-long : pairMost < length line → orderOutcome r ≡ refused (refusal 2 0 0)
       → Judges line es pool firstBuffer secondBuffer r firstBuffer secondBuffer
   unfolding pairAnswer pairFirstLeaves pairSecondLeaves
   judges-long h told = record {
@@ -26,7 +26,7 @@ module _ (line es pool firstBuffer secondBuffer : List ℕ) (r : Ordered) where
   }
 
   -- a line without a tab
-  pub judges-tabless : length line ≤ pairMost → tabOf line ≡ none → orderTold r ≡ refused (refusal 9 0 0)
+  pub judges-tabless : length line ≤ pairMost → tabOf line ≡ none → orderOutcome r ≡ refused (refusal 9 0 0)
       → Judges line es pool firstBuffer secondBuffer r firstBuffer secondBuffer
   unfolding pairAnswer pairFirstLeaves pairSecondLeaves
   judges-tabless h e told = record {

@@ -8,7 +8,7 @@ use mathlib.Core.List.{List, [], _∷_}
 use lib.Dec.{ltb, eqb}
 use lib.ListN.{length, take, drop, getD}
 use Rattle.terms.specs.Lists.{there, lowest}
-use Rattle.terms.specs.Refusals.{check, first, Told, refused}
+use Rattle.terms.specs.Refusals.{check, first, Outcome, refused}
 use Rattle.terms.specs.declared.Refusal.{Refusal}
 use Rattle.prepare.specs.Calls.{firstLeaves, secondLeaves}
 use Rattle.compare.specs.Compare.{orderAnswer}
@@ -43,12 +43,12 @@ pairRefusal line =
     first (check (ltb pairMost (length line)) 2 0 0 ∷ check (not (there (tabOf line))) 9 0 0 ∷ [])
 
 -- the answer of a line: its refusal, and else that of its texts
-abbrev pub judged : Option Refusal → Told → Told
+abbrev pub judged : Option Refusal → Outcome → Outcome
 judged none compared = compared
 judged (some r) compared = refused r
 
 -- the answer for a line: the order of its two texts under i;unicode-casemap
-unfoldable pub pairAnswer : List ℕ → List ℕ → List ℕ → List ℕ → List ℕ → Told
+unfoldable pub pairAnswer : List ℕ → List ℕ → List ℕ → List ℕ → List ℕ → Outcome
 pairAnswer line es pool firstBuffer secondBuffer =
     judged (pairRefusal line) (orderAnswer 3 (firstText line) (secondText line) es pool firstBuffer secondBuffer)
 

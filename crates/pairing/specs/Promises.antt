@@ -6,20 +6,20 @@ use mathlib.Core.Option.{Option, none, some}
 use mathlib.Core.List.{List}
 use lib.ListN.{length}
 use Rattle.terms.specs.Lists.{over}
-use Rattle.compare.specs.Compare.{orderTold}
+use Rattle.compare.specs.Compare.{orderOutcome}
 use Rattle.compare.specs.declared.Ordered.{Ordered}
 use Rattle.pairing.specs.Pairing.{pairAnswer, pairFirstLeaves, pairSecondLeaves}
 use Rattle.pairing.specs.declared.Tab.{Tab}
 use Rattle.pairing.specs.declared.Tab.the-variants.{At, Nowhere}
 
 -- the place that was found, if there is one
-abbrev pub tabTold : Tab → Option ℕ
-tabTold (At i) = some i
-tabTold Nowhere = none
+abbrev pub tabFound : Tab → Option ℕ
+tabFound (At i) = some i
+tabFound Nowhere = none
 
 -- a line was judged: the answer, and both key buffers
 pub record Judges (line es pool firstBuffer secondBuffer : List ℕ) (r : Ordered) (firstAfter secondAfter : List ℕ) : Type 0 where
-  pub answered : orderTold r ≡ pairAnswer line es pool firstBuffer secondBuffer
+  pub answered : orderOutcome r ≡ pairAnswer line es pool firstBuffer secondBuffer
   pub firstLeft : firstAfter ≡ pairFirstLeaves line es pool firstBuffer secondBuffer
   pub secondLeft : secondAfter ≡ pairSecondLeaves line es pool firstBuffer secondBuffer
 

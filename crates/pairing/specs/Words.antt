@@ -9,7 +9,7 @@ use mathlib.Core.List.{List, [], _∷_, _++_}
 use lib.Dec.{ltb, eqb}
 use lib.ListN.{getD}
 use borrow.Author.Tests.{ltb-false, lt-ltb, le-ltb}
-use Rattle.terms.specs.Refusals.{Told, refused, given}
+use Rattle.terms.specs.Refusals.{Outcome, refused, gives}
 
 -- ---- numbers
 
@@ -90,8 +90,8 @@ abbrev pub orderWord : ℕ → List ℕ
 orderWord n = cond (eqb n 1) less (cond (eqb n 2) equal greater)
 
 -- the words of an answer
-abbrev pub wordsOf : Told → List ℕ
-wordsOf (given values) = orderWord (getD values 0 0)
+abbrev pub wordsOf : Outcome → List ℕ
+wordsOf (gives values) = orderWord (getD values 0 0)
 wordsOf (refused r) = refusedWord ++ decimal (r .number)
 
 -- ---- lines
@@ -105,7 +105,7 @@ abbrev pub numbered : List ℕ → ℕ → List ℕ
 numbered word n = ended (word ++ decimal n)
 
 -- the line of an answer
-abbrev pub answerLine : Told → List ℕ
+abbrev pub answerLine : Outcome → List ℕ
 answerLine t = ended (wordsOf t)
 
 -- the first line

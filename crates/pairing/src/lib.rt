@@ -16,10 +16,10 @@ ghost use Prim.Native.Nat.{suc, _<_};
 ghost use lib.ListN.{length, take, drop};
 ghost use Rattle.terms.specs.Refusals.{refused, refusal};
 ghost use Rattle.decompose.specs.TableCheck.{tableRefusal};
-ghost use Rattle.compare.specs.Compare.{orderTold};
+ghost use Rattle.compare.specs.Compare.{orderOutcome};
 ghost use Rattle.compare.specs.Promises.{Orders};
 ghost use Rattle.pairing.specs.Pairing.{tabOf};
-ghost use Rattle.pairing.specs.Promises.{tabTold, Judges};
+ghost use Rattle.pairing.specs.Promises.{tabFound, Judges};
 
 // The longest line that is taken, in octets: two texts of terms::TEXT_MOST and the tab.
 pub const PAIR_MOST: usize = 8193;
@@ -81,7 +81,7 @@ fn order_around(
 
 // The answer for a line by its number alone: place and detail are 0.
 pub fn refuse(number: u32) -> Ordered
-    ensures { λ r. ⌜ orderTold r ≡ refused (refusal number 0 0) ⌝ }
+    ensures { λ r. ⌜ orderOutcome r ≡ refused (refusal number 0 0) ⌝ }
 {
     Ordered::Refused(Refusal {
         number,
@@ -92,7 +92,7 @@ pub fn refuse(number: u32) -> Ordered
 
 // Where the first tab of a line stands.
 fn find_tab(line: &[u8]) -> Tab
-    ensures { λ r. ⌜ tabTold r ≡ tabOf (now (line .entry)) ⌝ }
+    ensures { λ r. ⌜ tabFound r ≡ tabOf (now (line .entry)) ⌝ }
 {
     let mut i = 0;
     while i < line.len() {

@@ -4,7 +4,7 @@
 use compare::Ordered;
 ghost use Prim.Native.Nat.{_+_, _≤_};
 ghost use lib.ListN.{length};
-ghost use Rattle.compare.specs.Compare.{orderTold};
+ghost use Rattle.compare.specs.Compare.{orderOutcome};
 ghost use Rattle.pairing.specs.Words.{wordsMost, decimal, numbered, answerLine, headingLine, countLine, tableLine};
 ghost use Rattle.pairing.specs.Promises.{Puts};
 
@@ -20,7 +20,7 @@ const ZERO: u8 = 0x30;
 // Writes the line of an answer.
 pub fn put_answer(answer: Ordered, out: &mut [u8]) -> usize
     requires { ⌜ wordsMost ≤ length (now out) ⌝ }
-    ensures { λ r. ⌜ Puts (answerLine (orderTold answer)) (now (out .entry)) r (now (out .exit)) ⌝ }
+    ensures { λ r. ⌜ Puts (answerLine (orderOutcome answer)) (now (out .entry)) r (now (out .exit)) ⌝ }
 {
     match answer {
         Ordered::Less => put(b"less\n", out),

@@ -8,9 +8,9 @@ use mathlib.Core.Bool.{Bool, true, false}
 use mathlib.Core.Option.{Option, none, some}
 use mathlib.Core.List.{List, []}
 use lib.ListN.{length}
-use Rattle.terms.specs.Refusals.{answer, given}
+use Rattle.terms.specs.Refusals.{answer, gives}
 use Rattle.terms.specs.declared.Refusal.{Refusal}
-use Rattle.table.specs.Promises.{checkTold}
+use Rattle.table.specs.Promises.{checkOutcome}
 use Rattle.table.specs.declared.TableCheck.{TableCheck}
 use Rattle.table.specs.declared.TableCheck.the-variants.{Accepted}
 use Rattle.decompose.specs.TableCheck.{tableRefusal, tableAnswer}
@@ -40,17 +40,17 @@ module _ (b : Built) (line : List ℕ) (used : UsedWithin (b .state) (length (b 
       go : (o : Option Refusal) → refusalOf b line ≡ o → UsedWithin st (length (b .entries)) (length (b .pool))
       go none e = rw (a .state) (used-after e)
       go (some r) e =
-          let told : given (stateNumbers st) ≡ answer (refusalOf b line) (stateNumbers (addLine b line .state)) = a .answered in
+          let told : gives (stateNumbers st) ≡ answer (refusalOf b line) (stateNumbers (addLine b line .state)) = a .answered in
           let z : _≡_ {A = ℕ} 0 1 = cc (rw e at told) in
           absurd (omega arith)
 
 -- a table that passes the check is accepted
-pub accepted : (es pool : List ℕ) (r : TableCheck) → r ≡ Accepted → checkTold r ≡ tableAnswer es pool → tableRefusal es pool ≡ none
+pub accepted : (es pool : List ℕ) (r : TableCheck) → r ≡ Accepted → checkOutcome r ≡ tableAnswer es pool → tableRefusal es pool ≡ none
 accepted es pool r passed told = go (tableRefusal es pool) refl
   where
     go : (o : Option Refusal) → tableRefusal es pool ≡ o → tableRefusal es pool ≡ none
     go none e = e
     go (some x) e =
-        let said : given [] ≡ tableAnswer es pool = sym (ap checkTold passed) ∙ told in
+        let said : gives [] ≡ tableAnswer es pool = sym (ap checkOutcome passed) ∙ told in
         let z : _≡_ {A = ℕ} 0 1 = cc (rw e at said) in
         absurd (omega arith)

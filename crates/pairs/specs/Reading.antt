@@ -14,7 +14,7 @@ use Rattle.pairs.specs.declared.growing.Grown.the-variants.{Table, Refus
 use Rattle.pairs.specs.declared.growing.Added.{Added}
 use Rattle.pairs.specs.declared.growing.Added.the-variants.{Taken, Done}
 use Rattle.pairs.specs.declared.answers.Answered.{Answered}
-use Rattle.pairs.specs.declared.answers.Answered.the-variants.{Answer as Told, Nothing, End as Ended}
+use Rattle.pairs.specs.declared.answers.Answered.the-variants.{Answer as Outcome, Nothing, End as Ended}
 use Rattle.pairs.specs.declared.output.Output.{Output}
 
 -- ---- reading
@@ -68,7 +68,7 @@ AddedWithin n bound entries pool (Done grown) = GrownWithin entries pool grown
 
 -- where the reader goes on after an answer
 abbrev pub Answers : ℕ → ℕ → Answered → Type 0
-Answers n bound (Told answer r) = Goes n bound r
+Answers n bound (Outcome answer r) = Goes n bound r
 Answers n bound (Nothing r) = Goes n bound r
 Answers n bound Ended = Unit {0}
 

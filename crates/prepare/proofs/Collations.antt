@@ -14,7 +14,7 @@ use Rattle.table.specs.Mapping.{Mapping}
 use Rattle.utf8.specs.Utf8.{Character, characters}
 use Rattle.decompose.specs.TableCheck.{tableRefusal}
 use Rattle.prepare.specs.Keys.{upper, Prepared, unicodePrepared, asciiPrepared, octetPrepared, prepared, keyed}
-use Rattle.prepare.specs.Calls.{tableUnder, truth, placeTold, summaryTold, preparedValues}
+use Rattle.prepare.specs.Calls.{tableUnder, truth, placeNumber, summaryNumbers, preparedValues}
 use Rattle.prepare.specs.Promises.{KeyFilled}
 use Rattle.prepare.specs.declared.KeyPlace.the-variants.{Text, Buffer}
 use Rattle.prepare.specs.declared.Summary.{Summary}
@@ -66,7 +66,7 @@ buffered-unicode k m t b other = go (ℕ-discrete k 3)
 
 -- an invalid text is its own key under collation 3, and the buffer stays
 pub filled-kept : (m : Mapping) (t buffer : List ℕ) (o : Option (List Character)) (s : Summary) → there o ≡ false
-    → summaryTold s ≡ 0 ∷ 0 ∷ length t ∷ 0 ∷ []
+    → summaryNumbers s ≡ 0 ∷ 0 ∷ length t ∷ 0 ∷ []
     → KeyFilled (unicodePrepared m t o) buffer s buffer
 filled-kept m t buffer none s e h = record { told = h; left = refl }
 filled-kept m t buffer (some chs) s e h = absurd (true≢false e)
@@ -74,15 +74,15 @@ filled-kept m t buffer (some chs) s e h = absurd (true≢false e)
 -- ---- where the key belongs, by a summary's numbers
 
 -- in the buffer
-pub summary-buffered : (s : Summary) (p : Prepared) → summaryTold s ≡ preparedValues p → s .place ≡ Buffer → p .buffered ≡ true
+pub summary-buffered : (s : Summary) (p : Prepared) → summaryNumbers s ≡ preparedValues p → s .place ≡ Buffer → p .buffered ≡ true
 summary-buffered s p e place =
-    let told : placeTold (s .place) ≡ truth (p .buffered) = cc in
-    truth-inj (p .buffered) true (sym told ∙ ap placeTold place)
+    let told : placeNumber (s .place) ≡ truth (p .buffered) = cc in
+    truth-inj (p .buffered) true (sym told ∙ ap placeNumber place)
 
 -- in the text: the buffer stays
-pub summary-kept : (s : Summary) (p : Prepared) (buffer : List ℕ) → summaryTold s ≡ preparedValues p → s .place ≡ Text
+pub summary-kept : (s : Summary) (p : Prepared) (buffer : List ℕ) → summaryNumbers s ≡ preparedValues p → s .place ≡ Text
     → buffer ≡ keyed p buffer
 summary-kept s p buffer e place =
-    let told : placeTold (s .place) ≡ truth (p .buffered) = cc in
-    let out : p .buffered ≡ false = truth-inj (p .buffered) false (sym told ∙ ap placeTold place) in
+    let told : placeNumber (s .place) ≡ truth (p .buffered) = cc in
+    let out : p .buffered ≡ false = truth-inj (p .buffered) false (sym told ∙ ap placeNumber place) in
     rw out

@@ -10,7 +10,7 @@ use lib.Dec.{leb, eqb}
 use lib.ListN.{length}
 use borrow.Author.Tests.{eqb-true, leb-true, ltb-false, le-ltb}
 use Rattle.terms.specs.Lists.{orElse}
-use Rattle.terms.specs.Refusals.{expansionMost, given}
+use Rattle.terms.specs.Refusals.{expansionMost, gives}
 use Rattle.terms.specs.declared.Refusal.{Refusal}
 use Rattle.terms.proofs.Tests.{both}
 use Rattle.table.specs.Mapping.{Mapping}
@@ -20,7 +20,7 @@ use Rattle.utf8.proofs.Characters.{characters-count}
 use Rattle.decompose.specs.TableCheck.{tableRefusal}
 use Rattle.decompose.proofs.Demand3.{accepted-lookups, accepted-key}
 use Rattle.prepare.specs.Keys.{Prepared as Key, prepared, roomFor, keyed, unicodePrepared, asciiPrepared, octetPrepared}
-use Rattle.prepare.specs.Calls.{lent, tableUnder, roomCheck, roomChecks, truth, placeTold, summaryTold, preparedValues}
+use Rattle.prepare.specs.Calls.{lent, tableUnder, roomCheck, roomChecks, truth, placeNumber, summaryNumbers, preparedValues}
 use Rattle.prepare.specs.Promises.{neededAt, characterCount, KeyFilled, roomy, roomNeeded, roomRefusal, PreparesReady, PreparesTwoReady}
 use Rattle.prepare.specs.declared.KeyPlace.{KeyPlace}
 use Rattle.prepare.specs.declared.KeyPlace.the-variants.{Text, Buffer}
@@ -33,14 +33,14 @@ use Rattle.terms.proofs.Checks.{orElse-none, when-none}
 -- ---- the room that a summary asks for
 
 -- what a key needs by its place and length is what it needs by the definition
-needed : (place : KeyPlace) (buffered : Bool) (n len : ℕ) → placeTold place ≡ truth buffered → n ≡ len
+needed : (place : KeyPlace) (buffered : Bool) (n len : ℕ) → placeNumber place ≡ truth buffered → n ≡ len
     → neededAt place n ≡ cond buffered len 0
 needed Text true n len e h = cc
 needed Text false n len e h = refl
 needed Buffer true n len e h = h
 needed Buffer false n len e h = cc
 
-module _ (p : Key) (s : Summary) (sized : summaryTold s ≡ preparedValues p) where
+module _ (p : Key) (s : Summary) (sized : summaryNumbers s ≡ preparedValues p) where
   needed-roomFor : neededAt (s .place) (s .«key_length») ≡ roomFor p
   needed-roomFor = needed (s .place) (p .buffered) (s .«key_length») (length (p .key)) (cc) (cc)
 
@@ -107,7 +107,7 @@ module _ (k : ℕ) (t es pool buffer : List ℕ) (table : tableUnder k es pool �
     (s : Summary) (after : List ℕ)
     (filled : KeyFilled (unicodePrepared (mappingOf es pool) t (characters t)) buffer s after) where
   -- what filling it came to is what preparing the text comes to
-  pub filled-told : summaryTold s ≡ preparedValues (prepared k (mappingOf es pool) t)
+  pub filled-told : summaryNumbers s ≡ preparedValues (prepared k (mappingOf es pool) t)
   filled-told = rw (prepared-unicode k (mappingOf es pool) t (r .unicode)) (filled .told)
 
   pub filled-left : after ≡ keyed (prepared k (mappingOf es pool) t) buffer
@@ -123,7 +123,7 @@ module _ (k : ℕ) (t es pool buffer : List ℕ) (table : tableUnder k es pool �
 -- ---- one text
 
 module _ (k : ℕ) (text es pool buffer : List ℕ) (s : Summary)
-    (sized : summaryTold s ≡ preparedValues (prepared k (mappingOf es pool) text)) where
+    (sized : summaryNumbers s ≡ preparedValues (prepared k (mappingOf es pool) text)) where
   -- the refusal of one text for its key's room
   rooms-one : roomChecks k (mappingOf es pool) 1 (lent text buffer ∷ []) ≡ roomNeeded 1 (length buffer) s
   rooms-one =
@@ -156,7 +156,7 @@ module _ (k : ℕ) (text es pool buffer : List ℕ) (s : Summary)
 -- ---- two texts
 
 module _ (k : ℕ) (s t : List ℕ) (m : Mapping) (sBuffer tBuffer : List ℕ) (one two : Summary)
-    (sized : summaryTold one ≡ preparedValues (prepared k m s)) (sized2 : summaryTold two ≡ preparedValues (prepared k m t)) where
+    (sized : summaryNumbers one ≡ preparedValues (prepared k m s)) (sized2 : summaryNumbers two ≡ preparedValues (prepared k m t)) where
   -- the refusal of two texts for their keys' room: the first key, then the second
   rooms-two : roomRefusal k s t m sBuffer tBuffer
       ≡ orElse (roomNeeded 1 (length sBuffer) one) (roomNeeded 2 (length tBuffer) two)
@@ -174,7 +174,7 @@ module _ (k : ℕ) (s t : List ℕ) (m : Mapping) (sBuffer tBuffer : List ℕ) (
       → tAfter ≡ keyed (prepared k m t) tBuffer
       → PreparesTwoReady k s t m sBuffer tBuffer (Both one two) sAfter tAfter
   preparesTwoReady-written sAfter tAfter room room2 written written2 = record {
-    answered = rw (rooms-two, room, room2) (ap₂ (λ (a b : List ℕ). given (a ++ b)) sized sized2);
+    answered = rw (rooms-two, room, room2) (ap₂ (λ (a b : List ℕ). gives (a ++ b)) sized sized2);
     firstLeft = rw (rooms-two, room, room2) written;
     secondLeft = rw (rooms-two, room, room2) written2;
   }

@@ -12,13 +12,13 @@ use lib.ListN.{length, length-append, drop}
 use lib.Seq.{take-all, take-at}
 use borrow.Author.Tests.{le-leb}
 use Rattle.terms.specs.Lists.{over}
-use Rattle.terms.specs.Refusals.{refused, given}
+use Rattle.terms.specs.Refusals.{refused, gives}
 use Rattle.terms.specs.declared.Refusal.{Refusal}
 use Rattle.table.specs.Mapping.{Mapping}
 use Rattle.table.specs.Table.{mappingOf}
 use Rattle.utf8.specs.Utf8.{Character, characters}
 use Rattle.prepare.specs.Keys.{Prepared as Key, prepared, keyOf, keyed, unicodePrepared, asciiPrepared, octetPrepared}
-use Rattle.prepare.specs.Calls.{truth, placeTold, summaryTold, preparationTold, preparedValues, prepareRefusal, firstOf, shownAt, shownKey, compareRefusal}
+use Rattle.prepare.specs.Calls.{truth, placeNumber, summaryNumbers, preparationOutcome, preparedValues, prepareRefusal, firstOf, shownAt, shownKey, compareRefusal}
 use Rattle.prepare.specs.Promises.{Prepares, PreparesTwo}
 use Rattle.prepare.specs.declared.KeyPlace.{KeyPlace}
 use Rattle.prepare.specs.declared.KeyPlace.the-variants.{Text, Buffer}
@@ -62,11 +62,11 @@ key-text k m t = by-collation (eqb k 3) (eqb k 2)
 
 -- a place and a length that are a prepared text's show its key
 shownAt-place : (place : KeyPlace) (p : Key) (t buffer : List ℕ) → (p .buffered ≡ false → p .key ≡ t)
-    → placeTold place ≡ truth (p .buffered)
+    → placeNumber place ≡ truth (p .buffered)
     → shownAt place (length (p .key)) t (keyed p buffer) ≡ p .key
 shownAt-place place p t buffer whole e = go place (p .buffered) whole e
   where
-    go : (q : KeyPlace) (b : Bool) → (b ≡ false → p .key ≡ t) → placeTold q ≡ truth b
+    go : (q : KeyPlace) (b : Bool) → (b ≡ false → p .key ≡ t) → placeNumber q ≡ truth b
         → shownAt q (length (p .key)) t (cond b (over (p .key) buffer) buffer) ≡ p .key
     go Text true h e = cc
     go Text false h e = rw (h refl) (firstOf-all t)
@@ -74,7 +74,7 @@ shownAt-place place p t buffer whole e = go place (p .buffered) whole e
     go Buffer false h e = cc
 
 -- a summary with a prepared text's numbers shows its key
-pub shownAt-keyed : (k : ℕ) (m : Mapping) (t buffer : List ℕ) (s : Summary) → summaryTold s ≡ preparedValues (prepared k m t)
+pub shownAt-keyed : (k : ℕ) (m : Mapping) (t buffer : List ℕ) (s : Summary) → summaryNumbers s ≡ preparedValues (prepared k m t)
     → shownAt (s .place) (s .«key_length») t (keyed (prepared k m t) buffer) ≡ keyOf k m t
 shownAt-keyed k m t buffer s sized =
     let p = prepared k m t in
@@ -87,7 +87,7 @@ module _ (k : ℕ) (text es pool buffer : List ℕ) (r : Preparation) (after : L
   pub shown-key : prepareRefusal k text es pool buffer ≡ none → shownKey r text after ≡ keyOf k (mappingOf es pool) text
   shown-key e = go r (rw e at (h .answered)) (rw e at (h .left))
     where
-      go : (x : Preparation) → preparationTold x ≡ given (preparedValues (prepared k (mappingOf es pool) text))
+      go : (x : Preparation) → preparationOutcome x ≡ gives (preparedValues (prepared k (mappingOf es pool) text))
           → after ≡ keyed (prepared k (mappingOf es pool) text) buffer
           → shownKey x text after ≡ keyOf k (mappingOf es pool) text
       go (Prepared s) told left = rw left (shownAt-keyed k (mappingOf es pool) text buffer s (cc))
@@ -97,7 +97,7 @@ module _ (k : ℕ) (text es pool buffer : List ℕ) (r : Preparation) (after : L
   pub shown-refused : (x : Refusal) → prepareRefusal k text es pool buffer ≡ some x → shownKey r text after ≡ []
   shown-refused x e = go r (rw e at (h .answered))
     where
-      go : (y : Preparation) → preparationTold y ≡ refused x → shownKey y text after ≡ []
+      go : (y : Preparation) → preparationOutcome y ≡ refused x → shownKey y text after ≡ []
       go (Prepared s) told = cc
       go (Refused y) told = refl
 

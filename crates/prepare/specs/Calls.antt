@@ -8,7 +8,7 @@ use mathlib.Core.List.{List, [], _∷_}
 use lib.Dec.{leb, ltb, eqb}
 use lib.ListN.{length, take}
 use Rattle.terms.specs.Lists.{orElse}
-use Rattle.terms.specs.Refusals.{textMost, check, first, answer, Told, refused, given}
+use Rattle.terms.specs.Refusals.{textMost, check, first, answer, Outcome, refused, gives}
 use Rattle.terms.specs.declared.Refusal.{Refusal}
 use Rattle.table.specs.Mapping.{Mapping}
 use Rattle.table.specs.Table.{mappingOf}
@@ -75,18 +75,18 @@ truth true = 1
 truth false = 0
 
 -- where a key stands, as a number: 0 the text, 1 the buffer
-abbrev pub placeTold : KeyPlace → ℕ
-placeTold Text = 0
-placeTold Buffer = 1
+abbrev pub placeNumber : KeyPlace → ℕ
+placeNumber Text = 0
+placeNumber Buffer = 1
 
 -- a prepared text's numbers: valid, lookup count, length of the key, where it stands
-abbrev pub summaryTold : Summary → List ℕ
-summaryTold s = truth (s .valid) ∷ s .lookups ∷ s .«key_length» ∷ placeTold (s .place) ∷ []
+abbrev pub summaryNumbers : Summary → List ℕ
+summaryNumbers s = truth (s .valid) ∷ s .lookups ∷ s .«key_length» ∷ placeNumber (s .place) ∷ []
 
 -- a preparation's answer in the paper's numbers
-abbrev pub preparationTold : Preparation → Told
-preparationTold (Prepared s) = given (summaryTold s)
-preparationTold (Refused r) = refused r
+abbrev pub preparationOutcome : Preparation → Outcome
+preparationOutcome (Prepared s) = gives (summaryNumbers s)
+preparationOutcome (Refused r) = refused r
 
 -- the values of a text that was prepared
 abbrev pub preparedValues : Key → List ℕ
@@ -97,7 +97,7 @@ abbrev pub prepareRefusal : ℕ → List ℕ → List ℕ → List ℕ → List 
 prepareRefusal k text es pool buffer = callRefusal k (lent text buffer ∷ []) es pool
 
 -- what preparing a text answers
-abbrev pub prepareAnswer : ℕ → List ℕ → List ℕ → List ℕ → List ℕ → Told
+abbrev pub prepareAnswer : ℕ → List ℕ → List ℕ → List ℕ → List ℕ → Outcome
 prepareAnswer k text es pool buffer =
     answer (prepareRefusal k text es pool buffer) (preparedValues (prepared k (mappingOf es pool) text))
 

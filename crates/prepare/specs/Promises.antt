@@ -7,13 +7,13 @@ use mathlib.Core.Option.{Option, none, some}
 use mathlib.Core.List.{List, [], _∷_, _++_}
 use lib.Dec.{leb, ltb, eqb}
 use lib.ListN.{length}
-use Rattle.terms.specs.Refusals.{expansionMost, check, first, answer, Told, refused, given}
+use Rattle.terms.specs.Refusals.{expansionMost, check, first, answer, Outcome, refused, gives}
 use Rattle.terms.specs.declared.Refusal.{Refusal}
 use Rattle.table.specs.Mapping.{Mapping}
 use Rattle.table.specs.Table.{mappingOf}
 use Rattle.utf8.specs.Utf8.{Character, characters}
 use Rattle.prepare.specs.Keys.{Prepared as Key, prepared, keyed}
-use Rattle.prepare.specs.Calls.{lent, collationCheck, lengthCheck, roomChecks, bufferAfter, summaryTold, preparationTold, preparedValues, prepareAnswer, prepareLeaves, compareRefusal, firstLeaves, secondLeaves}
+use Rattle.prepare.specs.Calls.{lent, collationCheck, lengthCheck, roomChecks, bufferAfter, summaryNumbers, preparationOutcome, preparedValues, prepareAnswer, prepareLeaves, compareRefusal, firstLeaves, secondLeaves}
 use Rattle.prepare.specs.declared.KeyPlace.{KeyPlace}
 use Rattle.prepare.specs.declared.KeyPlace.the-variants.{Text, Buffer}
 use Rattle.prepare.specs.declared.Readiness.{Readiness}
@@ -43,9 +43,9 @@ textsRefusal k a b = first (collationCheck k ∷ lengthCheck 1 a ∷ lengthCheck
 -- ---- one text
 
 -- the lookup count of a preparation, 0 on a refusal
-abbrev pub lookupsTold : Preparation → ℕ
-lookupsTold (Prepared s) = s .lookups
-lookupsTold (Unprepared r) = 0
+abbrev pub lookupsCounted : Preparation → ℕ
+lookupsCounted (Prepared s) = s .lookups
+lookupsCounted (Unprepared r) = 0
 
 -- how many characters a text has, 0 where it is not valid
 abbrev pub characterCount : Option (List Character) → ℕ
@@ -54,21 +54,21 @@ characterCount (some chs) = length chs
 
 -- a text was prepared: the answer, the key buffer, and the lookup count's bound of 258 a character
 pub record Prepares (k : ℕ) (text es pool buffer : List ℕ) (r : Preparation) (after : List ℕ) : Type 0 where
-  pub answered : preparationTold r ≡ prepareAnswer k text es pool buffer
+  pub answered : preparationOutcome r ≡ prepareAnswer k text es pool buffer
   pub left : after ≡ prepareLeaves k text es pool buffer
-  pub most : lookupsTold r ≤ 258 * characterCount (characters text)
+  pub most : lookupsCounted r ≤ 258 * characterCount (characters text)
 
 -- the same of a call that passed 1 to 7, over a mapping: only 8 is left
 pub record PreparesReady (k : ℕ) (text : List ℕ) (m : Mapping) (buffer : List ℕ) (r : Preparation) (after : List ℕ) : Type 0 where
   pub answered :
-      preparationTold r
+      preparationOutcome r
       ≡ answer (roomChecks k m 1 (lent text buffer ∷ [])) (preparedValues (prepared k m text))
   pub left : after ≡ bufferAfter (roomChecks k m 1 (lent text buffer ∷ [])) (prepared k m text) buffer
-  pub most : lookupsTold r ≤ 258 * characterCount (characters text)
+  pub most : lookupsCounted r ≤ 258 * characterCount (characters text)
 
 -- a key was written: what preparing its text comes to, and the key buffer
 pub record KeyFilled (p : Key) (buffer : List ℕ) (r : Summary) (after : List ℕ) : Type 0 where
-  pub told : summaryTold r ≡ preparedValues p
+  pub told : summaryNumbers r ≡ preparedValues p
   pub left : after ≡ keyed p buffer
 
 -- a key buffer has room for any key of a text of n octets: under collation 3 an octet of a text comes to at most 128 of its key
@@ -82,14 +82,14 @@ roomNeeded place room s = check (ltb room (neededAt (s .place) (s .«key_length�
 -- ---- two texts
 
 -- two preparations' answer in the paper's numbers: the first text's, and then the second's
-abbrev pub pairTold : PreparedPair → Told
-pairTold (Both s t) = given (summaryTold s ++ summaryTold t)
-pairTold (Neither r) = refused r
+abbrev pub pairOutcome : PreparedPair → Outcome
+pairOutcome (Both s t) = gives (summaryNumbers s ++ summaryNumbers t)
+pairOutcome (Neither r) = refused r
 
 -- two texts were prepared: the answer, and both key buffers
 pub record PreparesTwo (k : ℕ) (s t es pool sBuffer tBuffer : List ℕ) (r : PreparedPair) (sAfter tAfter : List ℕ) : Type 0 where
   pub answered :
-      pairTold r
+      pairOutcome r
       ≡ answer
       (compareRefusal k s t es pool sBuffer tBuffer)
       (preparedValues (prepared k (mappingOf es pool) s) ++ preparedValues (prepared k (mappingOf es pool) t))
@@ -103,7 +103,7 @@ roomRefusal k s t m sBuffer tBuffer = roomChecks k m 1 (lent s sBuffer ∷ lent 
 -- the same of a call that passed 1 to 7, over a mapping: only 8 is left
 pub record PreparesTwoReady (k : ℕ) (s t : List ℕ) (m : Mapping) (sBuffer tBuffer : List ℕ) (r : PreparedPair) (sAfter tAfter : List ℕ) : Type 0 where
   pub answered :
-      pairTold r
+      pairOutcome r
       ≡ answer
       (roomRefusal k s t m sBuffer tBuffer)
       (preparedValues (prepared k m s) ++ preparedValues (prepared k m t))

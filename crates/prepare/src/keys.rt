@@ -14,14 +14,14 @@ ghost use Rattle.table.specs.Table.{mappingOf};
 ghost use Rattle.utf8.specs.Utf8.{characters};
 ghost use Rattle.decompose.specs.TableCheck.{tableRefusal};
 ghost use Rattle.prepare.specs.Keys.{upper, unicodePrepared, prepared, roomFor, keyed};
-ghost use Rattle.prepare.specs.Calls.{tableUnder, summaryTold, preparedValues};
+ghost use Rattle.prepare.specs.Calls.{tableUnder, summaryNumbers, preparedValues};
 ghost use Rattle.prepare.specs.Promises.{KeyFilled};
 
 // What preparing a text comes to, with nothing written.
 pub fn size_key(collation: u32, text: &[u8], entries: &[u32], pool: &[u32]) -> Summary
     requires { ⌜ length (now text) ≤ textMost ⌝ }
     requires { ⌜ tableUnder collation (now entries) (now pool) ≡ none ⌝ }
-    ensures { λ r. ⌜ summaryTold r ≡ preparedValues (prepared collation (mappingOf (now (entries .entry)) (now (pool .entry))) (now (text .entry))) ⌝ }
+    ensures { λ r. ⌜ summaryNumbers r ≡ preparedValues (prepared collation (mappingOf (now (entries .entry)) (now (pool .entry))) (now (text .entry))) ⌝ }
 {
     if collation == terms::UNICODE_CASEMAP {
         // An invalid text is its own key.
@@ -57,7 +57,7 @@ pub fn write_key(
 )
     requires { ⌜ length (now text) ≤ textMost ⌝ }
     requires { ⌜ tableUnder collation (now entries) (now pool) ≡ none ⌝ }
-    requires { ⌜ summaryTold summary ≡ preparedValues (prepared collation (mappingOf (now entries) (now pool)) (now text)) ⌝ }
+    requires { ⌜ summaryNumbers summary ≡ preparedValues (prepared collation (mappingOf (now entries) (now pool)) (now text)) ⌝ }
     requires { ⌜ roomFor (prepared collation (mappingOf (now entries) (now pool)) (now text)) ≤ length (now key) ⌝ }
     ensures { λ _. ⌜ now (key .exit) ≡ keyed (prepared collation (mappingOf (now (entries .entry)) (now (pool .entry))) (now (text .entry))) (now (key .entry)) ⌝ }
 {
@@ -93,7 +93,7 @@ fn size_unicode(text: &[u8], entries: &[u32], pool: &[u32]) -> Summary
     requires { ⌜ length (now text) ≤ textMost ⌝ }
     requires { ⌜ tableRefusal (now entries) (now pool) ≡ none ⌝ }
     requires { ⌜ there (characters (now text)) ≡ true ⌝ }
-    ensures { λ r. ⌜ summaryTold r ≡ preparedValues (unicodePrepared (mappingOf (now (entries .entry)) (now (pool .entry))) (now (text .entry)) (characters (now (text .entry)))) ⌝ }
+    ensures { λ r. ⌜ summaryNumbers r ≡ preparedValues (unicodePrepared (mappingOf (now (entries .entry)) (now (pool .entry))) (now (text .entry)) (characters (now (text .entry)))) ⌝ }
 {
     let mut at = 0;
     let mut octets = 0;
@@ -141,7 +141,7 @@ fn write_unicode(text: &[u8], entries: &[u32], pool: &[u32], key: &mut [u8]) -> 
 
 // What preparing an invalid text of so many octets comes to: it is its own key.
 fn kept(text_length: usize) -> Summary
-    ensures { λ r. ⌜ summaryTold r ≡ 0 ∷ 0 ∷ «text_length» ∷ 0 ∷ [] ⌝ }
+    ensures { λ r. ⌜ summaryNumbers r ≡ 0 ∷ 0 ∷ «text_length» ∷ 0 ∷ [] ⌝ }
 {
     Summary {
         valid: false,

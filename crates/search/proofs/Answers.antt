@@ -3,7 +3,7 @@
 use mathlib.Core.Path.{_≡_, refl}
 use Rattle.terms.specs.declared.KeyPosition.{KeyPosition}
 use Rattle.terms.specs.declared.TextPosition.{TextPosition}
-use Rattle.search.specs.Substring.{substringTold}
+use Rattle.search.specs.Substring.{substringOutcome}
 use Rattle.search.specs.declared.Sought.{Sought}
 use Rattle.search.specs.declared.Sought.the-variants.{Match, NoMatch, Refused}
 
@@ -15,15 +15,15 @@ pub text-position-inj : (a b : TextPosition) → a .0 ≡ b .0 → a ≡ b
 text-position-inj a b e = λ i. record { 0 = e i }
 
 -- substring answers with the same numbers are the same answer
-pub substringTold-inj : (x y : Sought) → substringTold x ≡ substringTold y → x ≡ y
-substringTold-inj (Match a b c d) (Match p q r s) e =
+pub substringOutcome-inj : (x y : Sought) → substringOutcome x ≡ substringOutcome y → x ≡ y
+substringOutcome-inj (Match a b c d) (Match p q r s) e =
     cc
     (key-position-inj a p (cc), key-position-inj b q (cc), text-position-inj c r (cc), text-position-inj d s (cc))
-substringTold-inj (Match a b c d) NoMatch e = cc
-substringTold-inj (Match a b c d) (Refused s) e = cc
-substringTold-inj NoMatch (Match p q r s) e = cc
-substringTold-inj NoMatch NoMatch e = refl
-substringTold-inj NoMatch (Refused s) e = cc
-substringTold-inj (Refused r) (Match p q t s) e = cc
-substringTold-inj (Refused r) NoMatch e = cc
-substringTold-inj (Refused r) (Refused s) e = cc
+substringOutcome-inj (Match a b c d) NoMatch e = cc
+substringOutcome-inj (Match a b c d) (Refused s) e = cc
+substringOutcome-inj NoMatch (Match p q r s) e = cc
+substringOutcome-inj NoMatch NoMatch e = refl
+substringOutcome-inj NoMatch (Refused s) e = cc
+substringOutcome-inj (Refused r) (Match p q t s) e = cc
+substringOutcome-inj (Refused r) NoMatch e = cc
+substringOutcome-inj (Refused r) (Refused s) e = cc

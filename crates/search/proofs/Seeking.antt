@@ -11,7 +11,7 @@ use mathlib.Core.List.{List, [], _∷_}
 use lib.ListN.{length, length-append, length-map}
 use borrow.Author.Tests.{eq-eqb, ne-eqb}
 use Rattle.terms.specs.Lists.{empty, there, each}
-use Rattle.terms.specs.Refusals.{given}
+use Rattle.terms.specs.Refusals.{gives}
 use Rattle.terms.specs.declared.Refusal.{Refusal}
 use Rattle.table.specs.Mapping.{Mapping}
 use Rattle.table.specs.Table.{mappingOf}
@@ -35,7 +35,7 @@ use Rattle.prepare.proofs.Shown.{ShownBoth, shown-both, shown-neither}
 use Rattle.occurrence.specs.Occurrence.{occurrence}
 use Rattle.occurrence.proofs.Laws.{occurrence-within}
 use Rattle.search.specs.Covering.{Span, span}
-use Rattle.search.specs.Substring.{substringTold, runIn, textRun, foundValues, substringValues}
+use Rattle.search.specs.Substring.{substringOutcome, runIn, textRun, foundValues, substringValues}
 use Rattle.search.specs.Promises.{Seeks, listed, Within, Hits, Readied, Shows}
 use Rattle.search.specs.declared.Sought.{Sought}
 use Rattle.search.specs.declared.Sought.the-variants.{Refused}
@@ -145,8 +145,8 @@ values-empty k m s t e = rw (empty-none s e)
 -- any other: what is found of its key in the second's
 pub values-found : (k : ℕ) (m : Mapping) (s t needle hay : List ℕ) (r : Sought) → (length s ≡ 0 → ⊥)
     → needle ≡ keyOf k m s → hay ≡ keyOf k m t
-    → substringTold r ≡ given (foundValues k m t (length needle) (occurrence needle hay))
-    → substringTold r ≡ given (substringValues k m s t)
+    → substringOutcome r ≡ gives (foundValues k m t (length needle) (occurrence needle hay))
+    → substringOutcome r ≡ gives (substringValues k m s t)
 unfolding substringValues
 values-found k m s t needle hay r h a b e = rw (empty-some s h, ← a, ← b) e
 
@@ -190,7 +190,7 @@ module _ (k : ℕ) (s t es pool sBuffer tBuffer : List ℕ) (r : PreparedPair) (
         }
 
     -- what was sought in their keys is the call's answer
-    pub seeks-both : (x : Sought) → substringTold x ≡ given (substringValues k (mappingOf es pool) s t)
+    pub seeks-both : (x : Sought) → substringOutcome x ≡ gives (substringValues k (mappingOf es pool) s t)
         → Seeks k s t es pool sBuffer tBuffer x sAfter tAfter
     seeks-both x answered = record {
       answered = rw (both .taken) answered;

@@ -15,14 +15,14 @@ use Rattle.prepare.specs.Keys.{prepared, keyOf}
 use Rattle.prepare.specs.Calls.{shownAt, firstLeaves, secondLeaves}
 use Rattle.prepare.specs.declared.Summary.{Summary}
 use Rattle.search.specs.Covering.{Span, span, holder}
-use Rattle.search.specs.Substring.{substringTold, substringAnswer}
+use Rattle.search.specs.Substring.{substringOutcome, substringAnswer}
 use Rattle.search.specs.declared.Sought.{Sought}
 use Rattle.search.specs.declared.covering.Run.{Run}
 use Rattle.search.specs.declared.covering.Holder.{Holder}
 
 -- a text was sought in another: the answer, and both key buffers
 pub record Seeks (k : ℕ) (s t es pool sBuffer tBuffer : List ℕ) (r : Sought) (sAfter tAfter : List ℕ) : Type 0 where
-  pub answered : substringTold r ≡ substringAnswer k s t es pool sBuffer tBuffer
+  pub answered : substringOutcome r ≡ substringAnswer k s t es pool sBuffer tBuffer
   pub firstLeft : sAfter ≡ firstLeaves k s t es pool sBuffer tBuffer
   pub secondLeft : tAfter ≡ secondLeaves k s t es pool sBuffer tBuffer
 
@@ -66,8 +66,8 @@ pub record Within (m : Mapping) (t : List ℕ) (s e : ℕ) : Type 0 where
   pub most : e ≤ length (stepsKey m (listed (characters t)))
 
 -- a run by its two ends
-abbrev pub runTold : Run → Span
-runTold r = span (r .start .0) (r .end .0)
+abbrev pub runSpan : Run → Span
+runSpan r = span (r .start .0) (r .end .0)
 
 -- ---- seeking
 

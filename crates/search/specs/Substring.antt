@@ -8,7 +8,7 @@ use mathlib.Core.List.{List, [], _∷_}
 use lib.Dec.{eqb}
 use lib.ListN.{length}
 use Rattle.terms.specs.Lists.{empty}
-use Rattle.terms.specs.Refusals.{answer, Told, refused, given}
+use Rattle.terms.specs.Refusals.{answer, Outcome, refused, gives}
 use Rattle.table.specs.Mapping.{Mapping}
 use Rattle.table.specs.Table.{mappingOf}
 use Rattle.utf8.specs.Utf8.{Character, characters}
@@ -20,10 +20,10 @@ use Rattle.search.specs.declared.Sought.{Sought}
 use Rattle.search.specs.declared.Sought.the-variants.{Match, NoMatch, Refused}
 
 -- the answer in the paper's numbers: 1 match, 2 no-match; start and end in the key, start and end in the text
-abbrev pub substringTold : Sought → Told
-substringTold (Match ks ke ts te) = given (1 ∷ ks .0 ∷ ke .0 ∷ ts .0 ∷ te .0 ∷ [])
-substringTold NoMatch = given (2 ∷ 0 ∷ 0 ∷ 0 ∷ 0 ∷ [])
-substringTold (Refused r) = refused r
+abbrev pub substringOutcome : Sought → Outcome
+substringOutcome (Match ks ke ts te) = gives (1 ∷ ks .0 ∷ ke .0 ∷ ts .0 ∷ te .0 ∷ [])
+substringOutcome NoMatch = gives (2 ∷ 0 ∷ 0 ∷ 0 ∷ 0 ∷ [])
+substringOutcome (Refused r) = refused r
 
 -- "Where the second text is invalid, or under collations 1 and 2, both pairs are the same": the run of the text for a part of
 -- the key, by the characters of the text under collation 3
@@ -51,6 +51,6 @@ substringValues k m s t =
     (foundValues k m t (length (keyOf k m s)) (occurrence (keyOf k m s) (keyOf k m t)))
 
 -- what the substring call answers
-abbrev pub substringAnswer : ℕ → List ℕ → List ℕ → List ℕ → List ℕ → List ℕ → List ℕ → Told
+abbrev pub substringAnswer : ℕ → List ℕ → List ℕ → List ℕ → List ℕ → List ℕ → List ℕ → Outcome
 substringAnswer k s t es pool sBuffer tBuffer =
     answer (compareRefusal k s t es pool sBuffer tBuffer) (substringValues k (mappingOf es pool) s t)

@@ -9,7 +9,7 @@ ghost use Rattle.utf8.specs.Utf8.{characters};
 ghost use Rattle.decompose.specs.TableCheck.{tableRefusal};
 ghost use Rattle.search.specs.Covering.{span};
 ghost use Rattle.search.specs.Substring.{runIn};
-ghost use Rattle.search.specs.Promises.{Within, Ahead, Held, holding, runTold};
+ghost use Rattle.search.specs.Promises.{Within, Ahead, Held, holding, runSpan};
 
 // A run of a text, from its start to its end.
 pub struct Run {
@@ -34,7 +34,7 @@ pub fn cover(
 ) -> Run
     requires { ⌜ tableRefusal (now entries) (now pool) ≡ none ⌝ }
     requires { ⌜ Within (mappingOf (now entries) (now pool)) (now text) (start .0) (end .0) ⌝ }
-    ensures { λ r. ⌜ runTold r ≡ runIn (mappingOf (now (entries .entry)) (now (pool .entry))) (characters (now (text .entry))) (span (start .0) (end .0)) ⌝ }
+    ensures { λ r. ⌜ runSpan r ≡ runIn (mappingOf (now (entries .entry)) (now (pool .entry))) (characters (now (text .entry))) (span (start .0) (end .0)) ⌝ }
 {
     let s = start.0;
     let e = end.0;

@@ -13,12 +13,12 @@ use terms::TextPosition;
 ghost use mathlib.Core.Path.{_≡_};
 ghost use mathlib.Core.Option.{none};
 ghost use lib.ListN.{length};
-ghost use Rattle.terms.specs.Refusals.{given};
+ghost use Rattle.terms.specs.Refusals.{gives};
 ghost use Rattle.table.specs.Table.{mappingOf};
 ghost use Rattle.prepare.specs.Calls.{tableUnder};
 ghost use Rattle.occurrence.specs.Occurrence.{occurrence};
 ghost use Rattle.search.specs.Covering.{span};
-ghost use Rattle.search.specs.Substring.{substringTold, textRun, hitValues, foundValues, substringValues};
+ghost use Rattle.search.specs.Substring.{substringOutcome, textRun, hitValues, foundValues, substringValues};
 ghost use Rattle.search.specs.Promises.{Seeks, Shows, Readied, Hits};
 
 // Where the first text's key occurs in the second's, and the run of whole characters of the second text that covers it.
@@ -126,7 +126,7 @@ fn seek_shown<'a, 'b>(
 ) -> Sought
     requires { ⌜ tableUnder collation (now entries) (now pool) ≡ none ⌝ }
     requires { ⌜ Shows collation (mappingOf (now entries) (now pool)) (now first) (now «first_key») one (now second) (now «second_key») two ⌝ }
-    ensures { λ r. ⌜ substringTold r ≡ given (substringValues collation (mappingOf (now (entries .entry)) (now (pool .entry))) (now (first .entry)) (now (second .entry))) ⌝ }
+    ensures { λ r. ⌜ substringOutcome r ≡ gives (substringValues collation (mappingOf (now (entries .entry)) (now (pool .entry))) (now (first .entry)) (now (second .entry))) ⌝ }
 {
     if first.len() == 0 {
         return Sought::Match {
@@ -153,7 +153,7 @@ fn seek_key(
 ) -> Sought
     requires { ⌜ tableUnder collation (now entries) (now pool) ≡ none ⌝ }
     requires { ⌜ Readied collation (mappingOf (now entries) (now pool)) (now needle) (now hay) (now second) valid ⌝ }
-    ensures { λ r. ⌜ substringTold r ≡ given (foundValues collation (mappingOf (now (entries .entry)) (now (pool .entry))) (now (second .entry)) (length (now (needle .entry))) (occurrence (now (needle .entry)) (now (hay .entry)))) ⌝ }
+    ensures { λ r. ⌜ substringOutcome r ≡ gives (foundValues collation (mappingOf (now (entries .entry)) (now (pool .entry))) (now (second .entry)) (length (now (needle .entry))) (occurrence (now (needle .entry)) (now (hay .entry)))) ⌝ }
 {
     let found = occurrence::find(needle, hay);
     match found {
@@ -186,7 +186,7 @@ fn hit(
 ) -> Sought
     requires { ⌜ tableUnder collation (now entries) (now pool) ≡ none ⌝ }
     requires { ⌜ Hits collation (mappingOf (now entries) (now pool)) (now second) valid (start .0) (end .0) ⌝ }
-    ensures { λ r. ⌜ substringTold r ≡ given (hitValues (span (start .0) (end .0)) (textRun collation (mappingOf (now (entries .entry)) (now (pool .entry))) (now (second .entry)) (span (start .0) (end .0)))) ⌝ }
+    ensures { λ r. ⌜ substringOutcome r ≡ gives (hitValues (span (start .0) (end .0)) (textRun collation (mappingOf (now (entries .entry)) (now (pool .entry))) (now (second .entry)) (span (start .0) (end .0)))) ⌝ }
 {
     if collation == terms::UNICODE_CASEMAP {
         if valid {

@@ -3,7 +3,7 @@
 use Prim.Native.Nat.{ℕ, suc, _+_, _<_, _≤_}
 use mathlib.Core.Option.{Option, none, some}
 use mathlib.Core.List.{List, []}
-use Rattle.terms.specs.Refusals.{Told, refused, given}
+use Rattle.terms.specs.Refusals.{Outcome, refused, gives}
 use Rattle.table.specs.Table.{entryCount, codeAt}
 use Rattle.table.specs.declared.TableCheck.{TableCheck}
 use Rattle.table.specs.declared.TableCheck.the-variants.{Accepted, Refused}
@@ -11,14 +11,14 @@ use Rattle.table.specs.declared.Place.{Place}
 use Rattle.table.specs.declared.Place.the-variants.{At, Nowhere}
 
 -- a table check's answer in the paper's numbers: accepted has no value
-abbrev pub checkTold : TableCheck → Told
-checkTold Accepted = given []
-checkTold (Refused r) = refused r
+abbrev pub checkOutcome : TableCheck → Outcome
+checkOutcome Accepted = gives []
+checkOutcome (Refused r) = refused r
 
 -- the place that was found, if there is one
-abbrev pub placeTold : Place → Option ℕ
-placeTold (At i) = some i
-placeTold Nowhere = none
+abbrev pub placeFound : Place → Option ℕ
+placeFound (At i) = some i
+placeFound Nowhere = none
 
 -- the code points of the entries ascend
 abbrev pub Ascending : List ℕ → Type 0

@@ -12,7 +12,7 @@ ghost use lib.ListN.{length};
 ghost use Rattle.terms.specs.Lists.{lowest};
 ghost use Rattle.terms.specs.Refusals.{refusal, answer, entriesMost};
 ghost use Rattle.table.specs.Table.{entryCount, countsBelow, faultySize, faultyCode, faultyEntry, entryFault, faultyNumber, formRefusal, entryOf, partsIn, partsOf};
-ghost use Rattle.table.specs.Promises.{checkTold, placeTold, Ascending, Reached, Among};
+ghost use Rattle.table.specs.Promises.{checkOutcome, placeFound, Ascending, Reached, Among};
 
 // Within how many entries of a guess to look first.
 const NEAR: usize = 64;
@@ -31,7 +31,7 @@ pub enum Place {
 
 // Whether two slices have the form of a table: one of 3 to 6, or accepted so far.
 pub fn check_form(entries: &[u32], pool: &[u32]) -> TableCheck
-    ensures { λ r. ⌜ checkTold r ≡ answer (formRefusal (now (entries .entry)) (now (pool .entry))) [] ⌝ }
+    ensures { λ r. ⌜ checkOutcome r ≡ answer (formRefusal (now (entries .entry)) (now (pool .entry))) [] ⌝ }
 {
     if is_faulty_size(entries, pool) {
         return TableCheck::Refused(Refusal {
@@ -55,7 +55,7 @@ pub fn check_form(entries: &[u32], pool: &[u32]) -> TableCheck
 // The entry of a code point.
 pub fn find_entry(entries: &[u32], c: CodePoint) -> Place
     requires { ⌜ Ascending (now entries) ⌝ }
-    ensures { λ r. ⌜ placeTold r ≡ entryOf (now (entries .entry)) (c .0) ⌝ }
+    ensures { λ r. ⌜ placeFound r ≡ entryOf (now (entries .entry)) (c .0) ⌝ }
 {
     let sought = c.0;
     let count = within_reach(entries, sought);
@@ -137,7 +137,7 @@ fn within_reach(entries: &[u32], sought: u32) -> usize
 fn find_around(entries: &[u32], sought: u32, count: usize) -> Place
     requires { ⌜ Ascending (now entries) ⌝ }
     requires { ⌜ Among (now entries) sought 0 count ⌝ }
-    ensures { λ r. ⌜ placeTold r ≡ entryOf (now (entries .entry)) sought ⌝ }
+    ensures { λ r. ⌜ placeFound r ≡ entryOf (now (entries .entry)) sought ⌝ }
 {
     let guess = published::place_of(sought);
     if count <= guess {
@@ -157,7 +157,7 @@ fn find_around(entries: &[u32], sought: u32, count: usize) -> Place
 fn find_after(entries: &[u32], sought: u32, low: usize, size: usize) -> Place
     requires { ⌜ Ascending (now entries) ⌝ }
     requires { ⌜ Among (now entries) sought low size ⌝ }
-    ensures { λ r. ⌜ placeTold r ≡ entryOf (now (entries .entry)) sought ⌝ }
+    ensures { λ r. ⌜ placeFound r ≡ entryOf (now (entries .entry)) sought ⌝ }
 {
     if NEAR < size {
         let far = low + NEAR;
@@ -173,7 +173,7 @@ fn find_after(entries: &[u32], sought: u32, low: usize, size: usize) -> Place
 fn find_before(entries: &[u32], sought: u32, high: usize) -> Place
     requires { ⌜ Ascending (now entries) ⌝ }
     requires { ⌜ Among (now entries) sought 0 high ⌝ }
-    ensures { λ r. ⌜ placeTold r ≡ entryOf (now (entries .entry)) sought ⌝ }
+    ensures { λ r. ⌜ placeFound r ≡ entryOf (now (entries .entry)) sought ⌝ }
 {
     if entries[high * 4 - 4] < sought {
         return Place::Nowhere;
@@ -192,7 +192,7 @@ fn find_before(entries: &[u32], sought: u32, high: usize) -> Place
 fn find_among(entries: &[u32], sought: u32, low: usize, size: usize) -> Place
     requires { ⌜ Ascending (now entries) ⌝ }
     requires { ⌜ Among (now entries) sought low size ⌝ }
-    ensures { λ r. ⌜ placeTold r ≡ entryOf (now (entries .entry)) sought ⌝ }
+    ensures { λ r. ⌜ placeFound r ≡ entryOf (now (entries .entry)) sought ⌝ }
 {
     let mut first = low;
     let mut left = size;
@@ -243,7 +243,7 @@ fn is_faulty_code(entries: &[u32], i: usize) -> bool
 
 // The lowest entry that 4 refuses.
 fn faulty_code(entries: &[u32]) -> Place
-    ensures { λ r. ⌜ placeTold r ≡ lowest (faultyCode (now (entries .entry))) (entryCount (now (entries .entry))) ⌝ }
+    ensures { λ r. ⌜ placeFound r ≡ lowest (faultyCode (now (entries .entry))) (entryCount (now (entries .entry))) ⌝ }
 {
     let mut i = 0;
     while i < entries.len() / 4 {
@@ -281,7 +281,7 @@ fn is_faulty_entry(entries: &[u32], pool: &[u32], i: usize, sum: usize) -> bool
 // Where 5 finds a fault: the lowest entry, or the number of entries if the pool is longer than all counts.
 fn faulty_entry(entries: &[u32], pool: &[u32]) -> Place
     requires { ⌜ entryCount (now entries) ≤ entriesMost ⌝ }
-    ensures { λ r. ⌜ placeTold r ≡ entryFault (now (entries .entry)) (now (pool .entry)) ⌝ }
+    ensures { λ r. ⌜ placeFound r ≡ entryFault (now (entries .entry)) (now (pool .entry)) ⌝ }
 {
     let mut sum: usize = 0;
     let mut i = 0;
@@ -300,7 +300,7 @@ fn faulty_entry(entries: &[u32], pool: &[u32]) -> Place
 
 // The lowest pool number that 6 refuses.
 fn faulty_number(pool: &[u32]) -> Place
-    ensures { λ r. ⌜ placeTold r ≡ lowest (faultyNumber (now (pool .entry))) (length (now (pool .entry))) ⌝ }
+    ensures { λ r. ⌜ placeFound r ≡ lowest (faultyNumber (now (pool .entry))) (length (now (pool .entry))) ⌝ }
 {
     let mut i = 0;
     while i < pool.len() {

@@ -6,7 +6,7 @@ use mathlib.Core.Option.{Option, none, some}
 use mathlib.Core.List.{List}
 use Prim.Native.Nat.{ℕ}
 use Rattle.terms.specs.Lists.{orElse, when}
-use Rattle.terms.specs.Refusals.{answer, refused, given}
+use Rattle.terms.specs.Refusals.{answer, refused, gives}
 use Rattle.terms.specs.declared.Refusal.{Refusal}
 
 -- ---- tests that don't hold
@@ -55,7 +55,7 @@ module _ {A : Type 0} where
 -- ---- answers
 
 -- values are given where nothing refuses
-pub answer-given : (o : Option Refusal) (vs ws : List ℕ) → given ws ≡ answer o vs → o ≡ none
+pub answer-given : (o : Option Refusal) (vs ws : List ℕ) → gives ws ≡ answer o vs → o ≡ none
 answer-given none vs ws e = refl
 answer-given (some r) vs ws e = cc
 

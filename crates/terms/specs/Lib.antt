@@ -1,3 +1,4 @@
 pub mod CodePoints
+pub mod Collations
 pub mod Lists
 pub mod Refusals

@@ -7,6 +7,8 @@ use mathlib.Core.List.{List, [], _∷_}
 use lib.ListN.{replicate}
 use Rattle.terms.specs.Lists.{orElse, when}
 use Rattle.terms.specs.declared.Refusal.{Refusal}
+use Rattle.terms.specs.declared.Check.{Check}
+use Rattle.terms.specs.declared.Check.the-variants.{Passed, Refused}
 
 -- ---- limits
 
@@ -57,20 +59,30 @@ abbrev pub first : List (Option Refusal) → Option Refusal
 first [] = none
 first (c ∷ cs) = orElse c (first cs)
 
+-- the refusal that a check answers, if it is one
+abbrev pub checkRefusal : Check → Option Refusal
+checkRefusal Passed = none
+checkRefusal (Refused r) = some r
+
 -- ---- answers
 
 -- an answer in the paper's numbers: a refusal, or the values that the call gives
-pub data Told : Type 0 where
-  refused : Refusal → Told
-  given : List ℕ → Told
+pub data Outcome : Type 0 where
+  refused : Refusal → Outcome
+  gives : List ℕ → Outcome
 
 -- the answer of a call: the refusal if a check applies, and else the values
-abbrev pub answer : Option Refusal → List ℕ → Told
-answer none values = given values
+abbrev pub answer : Option Refusal → List ℕ → Outcome
+answer none values = gives values
 answer (some r) values = refused r
+
+-- a check's answer: passed has no value
+abbrev pub checkOutcome : Check → Outcome
+checkOutcome Passed = gives []
+checkOutcome (Refused r) = refused r
 
 -- an answer of n values as one row of numbers: number (0 if not refused), place, detail, values;
 -- on a refusal "every other field of the answer is 0"
-abbrev pub row : ℕ → Told → List ℕ
+abbrev pub row : ℕ → Outcome → List ℕ
 row n (refused r) = r .number ∷ r .place ∷ r .detail ∷ replicate n 0
-row n (given values) = 0 ∷ 0 ∷ 0 ∷ values
+row n (gives values) = 0 ∷ 0 ∷ 0 ∷ values

@@ -1,8 +1,10 @@
 // The terms that all crates share (document 01): the kinds of number that must not be mixed, refusals, limits.
 //
-// One function stands here, since table, utf8 and ucd all ask it: whether a number is scalar.
+// Three functions stand here, since several crates ask them: whether a number is scalar, which collation a number names, and
+// whether a collation reads the table.
 ghost use mathlib.Core.Path.{_≡_};
 ghost use Rattle.terms.specs.CodePoints.{scalar};
+ghost use Rattle.terms.specs.Collations.{collationOf, readsTable, collationNamed};
 
 // A code point's number: "Code point numbers and octet positions are counted apart".
 pub struct CodePoint(pub u32);
@@ -20,7 +22,30 @@ pub struct Refusal {
     pub detail: u64,
 }
 
-// The collations, by their numbers.
+// What a check answers.
+pub enum Check {
+    Passed,
+    Refused(Refusal),
+}
+
+// The collations of document 01. A number becomes one by `collation_of` alone.
+pub enum Collation {
+    // i;octet
+    Octet,
+    // i;ascii-casemap
+    AsciiCasemap,
+    // i;unicode-casemap
+    UnicodeCasemap,
+}
+
+// What a number names.
+pub enum CollationName {
+    Known(Collation),
+    // No collation has the number.
+    Unknown,
+}
+
+// The collations' numbers.
 pub const OCTET: u32 = 1;
 
 pub const ASCII_CASEMAP: u32 = 2;
@@ -92,4 +117,31 @@ pub fn is_scalar(c: u32) -> bool
         return false;
     }
     c <= 0x10FFFF
+}
+
+// The collation that a number names.
+pub fn collation_of(number: u32) -> CollationName
+    ensures { λ r. ⌜ collationNamed r ≡ collationOf number ⌝ }
+{
+    if number == OCTET {
+        return CollationName::Known(Collation::Octet);
+    }
+    if number == ASCII_CASEMAP {
+        return CollationName::Known(Collation::AsciiCasemap);
+    }
+    if number == UNICODE_CASEMAP {
+        return CollationName::Known(Collation::UnicodeCasemap);
+    }
+    CollationName::Unknown
+}
+
+// Whether a collation reads the table.
+pub fn reads_table(collation: Collation) -> bool
+    ensures { λ r. ⌜ r ≡ readsTable collation ⌝ }
+{
+    match collation {
+        Collation::Octet => false,
+        Collation::AsciiCasemap => false,
+        Collation::UnicodeCasemap => true,
+    }
 }

@@ -8,7 +8,7 @@ use mathlib.Core.List.{List}
 use lib.Dec.{ltb, eqb}
 use lib.ListN.{length}
 use Rattle.terms.specs.Lists.{there, orElse}
-use Rattle.terms.specs.Refusals.{lineMost, refusal, given}
+use Rattle.terms.specs.Refusals.{lineMost, refusal, gives}
 use Rattle.terms.specs.declared.Refusal.{Refusal}
 use Rattle.terms.proofs.Checks.{orElse-assoc}
 use Rattle.ucd.specs.Fields.{fields, field, codePoint, decomposition, titlecase}
@@ -64,7 +64,7 @@ module _ (st : LineState) (line es pool : List ℕ) where
       let left : Left (builtBy none (built st es pool) (said line)) r es′ pool′ =
       subst (λ (x : Mapped). Left (builtBy none (built st es pool) x) r es′ pool′) s l in
       record {
-        answered = rw n (ap (λ (x : LineState). given (stateNumbers x)) (left .state));
+        answered = rw n (ap (λ (x : LineState). gives (stateNumbers x)) (left .state));
         state = rw n (left .state);
         entries = rw n (left .entries);
         pool = rw n (left .pool);

@@ -4,7 +4,7 @@ use mathlib.Core.Path.{_≡_, refl}
 use Prim.Native.Nat.{ℕ}
 use mathlib.Core.List.{List, [], _∷_, _++_}
 use lib.ListN.{replicate}
-use Rattle.terms.specs.Refusals.{refused, given, refusal}
+use Rattle.terms.specs.Refusals.{refused, gives, refusal}
 use Rattle.ucd.specs.Fields.{cut, digits, codePoint, codePoints, decomposition, titlecase}
 use Rattle.ucd.specs.Builder.{Built, fresh, lineRefusal, addLine, addLines, lineAnswer}
 use Rattle.ucd.specs.Promises.{built}
@@ -76,17 +76,17 @@ leading-zero =
 -- ---- answers
 
 -- a titlecase alone: one entry
-pub answer-mapping : lineAnswer start small-a ≡ given (1 ∷ 0 ∷ 0x62 ∷ [])
+pub answer-mapping : lineAnswer start small-a ≡ gives (1 ∷ 0 ∷ 0x62 ∷ [])
 unfolding addLine lineRefusal cut digits codePoint codePoints decomposition titlecase
 answer-mapping = refl
 
 -- parts: one entry, two pool numbers
-pub answer-parts : lineAnswer start e-acute ≡ given (1 ∷ 2 ∷ 0xEA ∷ [])
+pub answer-parts : lineAnswer start e-acute ≡ gives (1 ∷ 2 ∷ 0xEA ∷ [])
 unfolding addLine lineRefusal cut digits codePoint codePoints decomposition titlecase
 answer-parts = refl
 
 -- a line that says nothing only moves the last code point, that of a surrogate too
-pub answer-nothing : lineAnswer start surrogate ≡ given (0 ∷ 0 ∷ 0xD801 ∷ [])
+pub answer-nothing : lineAnswer start surrogate ≡ gives (0 ∷ 0 ∷ 0xD801 ∷ [])
 unfolding addLine lineRefusal cut digits codePoint codePoints decomposition titlecase
 answer-nothing = refl
 

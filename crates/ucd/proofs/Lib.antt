@@ -12,6 +12,6 @@ pub mod Accepted
 pub mod Appending
 pub mod Grown
 pub mod BuiltForm
-pub mod Told
+pub mod Outcome
 pub mod BuiltMapping
 pub mod Defaults

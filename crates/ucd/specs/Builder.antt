@@ -9,7 +9,7 @@ use lib.Dec.{ltb, eqb}
 use lib.ListN.{length}
 use Rattle.terms.specs.CodePoints.{scalar}
 use Rattle.terms.specs.Lists.{all, empty, there, putAt}
-use Rattle.terms.specs.Refusals.{lineMost, entriesMost, poolMost, check, first, answer, Told, refused, given}
+use Rattle.terms.specs.Refusals.{lineMost, entriesMost, poolMost, check, first, answer, Outcome, refused, gives}
 use Rattle.terms.specs.declared.Refusal.{Refusal}
 use Rattle.ucd.specs.Fields.{fields, field, codePoint, decomposition, titlecase}
 use Rattle.ucd.specs.declared.LineState.{LineState}
@@ -139,22 +139,22 @@ abbrev pub stateNumbers : LineState → List ℕ
 stateNumbers st = st .«entries_used» ∷ st .«pool_used» ∷ st .next ∷ []
 
 -- the answer: on a refusal its number; else the state
-abbrev pub lineTold : Line → Told
-lineTold (Taken st) = given (stateNumbers st)
-lineTold (Refused r st) = refused r
+abbrev pub lineOutcome : Line → Outcome
+lineOutcome (Taken st) = gives (stateNumbers st)
+lineOutcome (Refused r st) = refused r
 
 -- the state that comes back, refused or not
-abbrev pub stateTold : Line → LineState
-stateTold (Taken st) = st
-stateTold (Refused r st) = st
+abbrev pub stateAfter : Line → LineState
+stateAfter (Taken st) = st
+stateAfter (Refused r st) = st
 
 -- what a line answers
-abbrev pub lineAnswer : Built → List ℕ → Told
+abbrev pub lineAnswer : Built → List ℕ → Outcome
 lineAnswer b line = answer (lineRefusal (b .state) line (b .entries) (b .pool)) (stateNumbers (addLine b line .state))
 
 -- a line was added: the answer, the state that comes back, and both slices
 pub record Added (b : Built) (line : List ℕ) (r : Line) (es : List ℕ) (parts : List ℕ) : Type 0 where
-  pub answered : lineTold r ≡ lineAnswer b line
-  pub state : stateTold r ≡ addLine b line .state
+  pub answered : lineOutcome r ≡ lineAnswer b line
+  pub state : stateAfter r ≡ addLine b line .state
   pub entries : es ≡ addLine b line .entries
   pub pool : parts ≡ addLine b line .pool

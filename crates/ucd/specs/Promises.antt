@@ -33,16 +33,16 @@ pieceEnd sep (o ∷ os) = cond (eqb o sep) 0 (suc (pieceEnd sep os))
 -- ---- numbers
 
 -- the number that was read, if there is one
-abbrev pub numberTold : Number → Option ℕ
-numberTold (Value v) = some v
-numberTold Malformed = none
+abbrev pub numberRead : Number → Option ℕ
+numberRead (Value v) = some v
+numberRead Malformed = none
 
 -- ---- parts
 
 -- the parts that were read, which stand at the front of a slice
-abbrev pub partsTold : Parts → List ℕ → Option (List ℕ)
-partsTold (Count n) out = some (take n out)
-partsTold Unlisted out = none
+abbrev pub partsRead : Parts → List ℕ → Option (List ℕ)
+partsRead (Count n) out = some (take n out)
+partsRead Unlisted out = none
 
 -- how many parts were read
 abbrev pub partsCount : Parts → ℕ
@@ -51,7 +51,7 @@ partsCount Unlisted = 0
 
 -- the parts were read, and written to the front of a slice
 pub record Listed (parts : Option (List ℕ)) (r : Parts) (out : List ℕ) : Type 0 where
-  pub told : partsTold r out ≡ parts
+  pub told : partsRead r out ≡ parts
   pub within : partsCount r ≤ partsMost
 
 -- ---- a line

@@ -1,7 +1,7 @@
 // Code points in hex digits (document 01, "Lines of UnicodeData.txt"): fields 0 and 14, and the parts of field 5.
 ghost use mathlib.Core.Path.{_≡_};
 ghost use Rattle.ucd.specs.Fields.{digit, digits, bounded, wellSized, codePoint, titlecase};
-ghost use Rattle.ucd.specs.Promises.{numberTold};
+ghost use Rattle.ucd.specs.Promises.{numberRead};
 
 // What octets write.
 pub enum Number {
@@ -12,7 +12,7 @@ pub enum Number {
 
 // The titlecase that field 14 gives the code point `code`: itself where the field is empty.
 pub fn read_titlecase(code: u32, t: &[u8]) -> Number
-    ensures { λ r. ⌜ numberTold r ≡ titlecase code (now (t .entry)) ⌝ }
+    ensures { λ r. ⌜ numberRead r ≡ titlecase code (now (t .entry)) ⌝ }
 {
     if t.len() == 0 {
         return Number::Value(code);
@@ -22,7 +22,7 @@ pub fn read_titlecase(code: u32, t: &[u8]) -> Number
 
 // The code point that octets write.
 pub fn read_code_point(t: &[u8]) -> Number
-    ensures { λ r. ⌜ numberTold r ≡ codePoint (now (t .entry)) ⌝ }
+    ensures { λ r. ⌜ numberRead r ≡ codePoint (now (t .entry)) ⌝ }
 {
     if is_well_sized(t) {
         return read_digits(t);
@@ -48,7 +48,7 @@ fn is_well_sized(t: &[u8]) -> bool
 
 // The value of digits, if it is at most 10FFFF hex.
 fn read_digits(t: &[u8]) -> Number
-    ensures { λ r. ⌜ numberTold r ≡ bounded (digits 0 (now (t .entry))) ⌝ }
+    ensures { λ r. ⌜ numberRead r ≡ bounded (digits 0 (now (t .entry))) ⌝ }
 {
     let mut value = 0;
     let mut i = 0;
@@ -68,7 +68,7 @@ fn read_digits(t: &[u8]) -> Number
 
 // The value of a digit.
 fn read_digit(octet: u8) -> Number
-    ensures { λ r. ⌜ numberTold r ≡ digit octet ⌝ }
+    ensures { λ r. ⌜ numberRead r ≡ digit octet ⌝ }
 {
     let o = octet as u32;
     if o < 0x30 {

@@ -12,9 +12,9 @@ use Rattle.utf8.specs.declared.Reading.the-variants.{Character as Read, 
 use Rattle.utf8.specs.declared.Scanned.{Scanned}
 
 -- the character that a reading is, if it is one
-abbrev pub readingTold : Reading → Option Character
-readingTold (Read c w) = some (character (c .0) w)
-readingTold Malformed = none
+abbrev pub characterRead : Reading → Option Character
+characterRead (Read c w) = some (character (c .0) w)
+characterRead Malformed = none
 
 -- the character that was read where one stands
 abbrev pub scannedTold : Scanned → Option Character

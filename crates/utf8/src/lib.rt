@@ -11,7 +11,7 @@ ghost use mathlib.Core.List.{_∷_};
 ghost use lib.ListN.{length, drop};
 ghost use Rattle.terms.specs.Lists.{there};
 ghost use Rattle.utf8.specs.Utf8.{encode, decode, characters, trails, taken, two, three, four};
-ghost use Rattle.utf8.specs.Promises.{readingTold, scannedTold, Written};
+ghost use Rattle.utf8.specs.Promises.{characterRead, scannedTold, Written};
 
 // A character that was read: its code point, and how many octets it takes.
 pub struct Scanned {
@@ -131,7 +131,7 @@ enum Reading {
 
 // The character at a position of a text.
 fn read_character(text: &[u8], at: TextPosition) -> Reading
-    ensures { λ r. ⌜ readingTold r ≡ decode (drop (at .0) (now (text .entry))) ⌝ }
+    ensures { λ r. ⌜ characterRead r ≡ decode (drop (at .0) (now (text .entry))) ⌝ }
 {
     let i = at.0;
     if text.len() <= i {
@@ -163,7 +163,7 @@ fn is_trailing(octet: u32) -> bool
 
 // The character of a code point that was read from `width` octets, if it needs that many and is scalar.
 fn accept(width: usize, least: u32, c: u32) -> Reading
-    ensures { λ r. ⌜ readingTold r ≡ taken width least c ⌝ }
+    ensures { λ r. ⌜ characterRead r ≡ taken width least c ⌝ }
 {
     if c < least {
         return Reading::Malformed;
@@ -177,7 +177,7 @@ fn accept(width: usize, least: u32, c: u32) -> Reading
 // The character of more than one octet that the octet `a` begins and `rest` goes on.
 fn read_longer(a: u32, rest: &[u8]) -> Reading
     requires { ⌜ 0x80 ≤ a ⌝ }
-    ensures { λ r. ⌜ readingTold r ≡ decode (a ∷ now (rest .entry)) ⌝ }
+    ensures { λ r. ⌜ characterRead r ≡ decode (a ∷ now (rest .entry)) ⌝ }
 {
     if a < 0xC0 {
         return Reading::Malformed;
@@ -197,7 +197,7 @@ fn read_longer(a: u32, rest: &[u8]) -> Reading
 // The character of two octets whose first carries the bits x.
 fn read_two(x: u32, rest: &[u8]) -> Reading
     requires { ⌜ x < 0x20 ⌝ }
-    ensures { λ r. ⌜ readingTold r ≡ two x (now (rest .entry)) ⌝ }
+    ensures { λ r. ⌜ characterRead r ≡ two x (now (rest .entry)) ⌝ }
 {
     if rest.len() < 1 {
         return Reading::Malformed;
@@ -212,7 +212,7 @@ fn read_two(x: u32, rest: &[u8]) -> Reading
 // The character of three octets whose first carries the bits x.
 fn read_three(x: u32, rest: &[u8]) -> Reading
     requires { ⌜ x < 0x10 ⌝ }
-    ensures { λ r. ⌜ readingTold r ≡ three x (now (rest .entry)) ⌝ }
+    ensures { λ r. ⌜ characterRead r ≡ three x (now (rest .entry)) ⌝ }
 {
     if rest.len() < 2 {
         return Reading::Malformed;
@@ -230,7 +230,7 @@ fn read_three(x: u32, rest: &[u8]) -> Reading
 // The character of four octets whose first carries the bits x.
 fn read_four(x: u32, rest: &[u8]) -> Reading
     requires { ⌜ x < 0x8 ⌝ }
-    ensures { λ r. ⌜ readingTold r ≡ four x (now (rest .entry)) ⌝ }
+    ensures { λ r. ⌜ characterRead r ≡ four x (now (rest .entry)) ⌝ }
 {
     if rest.len() < 3 {
         return Reading::Malformed;

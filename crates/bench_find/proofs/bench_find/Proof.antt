@@ -6,7 +6,7 @@ use Prim.Native.Nat.{ℕ}
 use native.Mathlib.Omega.{arith}
 use borrow.Author.Needs.{needs}
 use Rattle.occurrence.specs.Occurrence.{occurrence}
-use Rattle.occurrence.specs.Promises.{occurrenceTold}
+use Rattle.occurrence.specs.Promises.{placeFound}
 use Rattle.occurrence.proofs.Laws.{occurrence-within}
 use Rattle.bench_find.proofs.bench_find.Statement.{statement}
 use Rattle.bench_find.proofs.bench_find.Tie as tie
@@ -21,7 +21,7 @@ place c = c .found .given .0 .0 .0
 
 found : (c : tie.After-found) → let s = start (c .before .before) in
     occurrence (s .args .needle .now) (s .args .hay .now) ≡ some (place c)
-found c = sym (c .before .before .find .ensures) ∙ ap occurrenceTold (c .found .given .1)
+found c = sym (c .before .before .find .ensures) ∙ ap placeFound (c .found .given .1)
 
 find-requires : tie.Need-find-requires
 find-requires c κs = search needs
@@ -48,7 +48,7 @@ returns-2 : tie.Need-returns-2
 returns-2 c =
     let s = start (c .before .before) in
     let nowhere : occurrence (s .args .needle .now) (s .args .hay .now) ≡ none =
-    sym (c .before .before .find .ensures) ∙ ap occurrenceTold (c .enum-told .given .1) in
+    sym (c .before .before .find .ensures) ∙ ap placeFound (c .enum-told .given .1) in
     rw nowhere
 
 pub bench-find-spec : {M : Type 1} → statement M

@@ -9,7 +9,7 @@ use mathlib.Core.List.{List, [], _∷_}
 use borrow.Author.Needs.{needs}
 use lib.ListN.{length, drop, getD, drop-of-length-le}
 use lib.Seq.{drop-cons}
-use Rattle.terms.specs.Refusals.{Told, given}
+use Rattle.terms.specs.Refusals.{Outcome, gives}
 use Rattle.compare.specs.KeyOrder.{andThen, orderOf}
 use Rattle.compare.specs.Compare.{orderNumber}
 use Rattle.compare.proofs.KeyOrder.{compare-refl, compare-below, compare-flip}
@@ -68,8 +68,8 @@ abbrev μ-loop : tie.MeasureT-loop
 μ-loop a b i₀ i = length a - i
 
 -- an order of keys in the paper's numbers
-abbrev told : Ordering → Told
-told o = given (orderNumber o ∷ [])
+abbrev told : Ordering → Outcome
+told o = gives (orderNumber o ∷ [])
 
 -- both keys have an octet at i: the loop's head, and what is known there
 abbrev head : tie.Else1 Inv-loop μ-loop → tie.At-loop Inv-loop μ-loop

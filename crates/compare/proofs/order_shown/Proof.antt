@@ -4,7 +4,7 @@ use mathlib.Core.Path.{_∙_, ap₂, ap}
 use Prim.Native.Nat.{Ordering}
 use mathlib.Core.List.{[], _∷_}
 use borrow.Author.Needs.{needs}
-use Rattle.terms.specs.Refusals.{given}
+use Rattle.terms.specs.Refusals.{gives}
 use Rattle.compare.specs.KeyOrder.{orderOf}
 use Rattle.compare.specs.Compare.{orderNumber}
 use Rattle.compare.proofs.order_shown.Statement.{statement}
@@ -23,7 +23,7 @@ order-octets-requires c κs = search needs
 returns : tie.Need-returns
 returns c =
     c .order-octets .ensures
-    ∙ ap (λ (o : Ordering). given (orderNumber o ∷ []))
+    ∙ ap (λ (o : Ordering). gives (orderNumber o ∷ []))
     (ap₂ orderOf (c .before .before .shown-part .ensures) (c .before .shown-part2 .ensures))
 
 pub order-shown-spec : {M : Type 1} → statement M

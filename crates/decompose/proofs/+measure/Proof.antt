@@ -13,7 +13,7 @@ use borrow.Author.Tests.{le-leb, lt-leb}
 use Rattle.terms.specs.Lists.{when}
 use Rattle.table.specs.Mapping.{Mapping}
 use Rattle.table.specs.Table.{mappingOf}
-use Rattle.decompose.specs.Promises.{measured, measurementTold}
+use Rattle.decompose.specs.Promises.{measured, measuredSize}
 use Rattle.decompose.proofs.Walk.{parts-none, measured-whole, Split}
 use Rattle.decompose.proofs.Measuring.{measuredParts, measured-parts, measured-none, Measuring, measuring-start, measuring-more, measuring-done, measuring-stop}
 use borrow.Fn.Kinds.{In, Out}
@@ -127,7 +127,7 @@ one t c =
 
 -- and another fits if it was measured so
 fits : (t : ℕ) (c : Of t lts.After-measurement) → part t (c .before .before .before .before) ≡ some (c .measurement .given .0 .0)
-fits t c = sym (c .before .before .measure .ensures) ∙ ap measurementTold (c .measurement .given .1)
+fits t c = sym (c .before .before .measure .ensures) ∙ ap measuredSize (c .measurement .given .1)
 
 -- no level left
 returns : (t : ℕ) → Of t lts.Need-returns
@@ -196,7 +196,7 @@ enum-told t c = search needs
 returns-3 : (t : ℕ) → Of t lts.Need-returns-3
 returns-3 t c =
     let called = c .before .before in
-    stop t (called .before .before) (sym (called .measure .ensures) ∙ ap measurementTold (c .enum-told .given .1))
+    stop t (called .before .before) (sym (called .measure .ensures) ∙ ap measuredSize (c .enum-told .given .1))
 
 -- an index fits
 add-i : (t : ℕ) → Of t lts.Need-add-i

@@ -15,11 +15,11 @@ use Rattle.terms.specs.Lists.{when}
 use Rattle.terms.specs.Refusals.{levelsMost, fullMost, answer}
 use Rattle.terms.proofs.Lowest.{lowest-is, lowest-nowhere}
 use Rattle.table.specs.Table.{entryCount, codeAt, refusedAt, partsOf, mappingOf}
-use Rattle.table.specs.Promises.{checkTold}
+use Rattle.table.specs.Promises.{checkOutcome}
 use Rattle.table.proofs.Form.{formed-ascending, entryOf-entry}
 use Rattle.decompose.specs.Levels.{full}
 use Rattle.decompose.specs.TableCheck.{unfolds, faultyLevel}
-use Rattle.decompose.specs.Promises.{measured, measurementTold}
+use Rattle.decompose.specs.Promises.{measured, measuredSize}
 use Rattle.decompose.proofs.Walk.{parts-none, unfolds-whole}
 use Rattle.decompose.proofs.check_levels.Statement.{statement}
 use Rattle.decompose.proofs.check_levels.Tie as tie
@@ -100,9 +100,9 @@ returns c =
     let es = start parted .args .entries .now in
     let pool = start parted .args .pool .now in
     let i = l .loop .i in
-    let faulty = too-much es pool i (sym (called .measure .ensures) ∙ ap measurementTold (c .before .enum-told .given .1)) in
+    let faulty = too-much es pool i (sym (called .measure .ensures) ∙ ap measuredSize (c .before .enum-told .given .1)) in
     let found = lowest-is (faultyLevel es pool) (entryCount es) i (parted .before .loop-test .taken) faulty (l .loop .inv .1) in
-    ap checkTold (c .refused-at .ensures) ∙ sym (ap (λ (o : Option ℕ). answer (refusedAt 7 o) []) found)
+    ap checkOutcome (c .refused-at .ensures) ∙ sym (ap (λ (o : Option ℕ). answer (refusedAt 7 o) []) found)
 
 enum-told-2 : tie.Need-enum-told-2 Inv-loop μ-loop
 enum-told-2 c = search needs
@@ -123,7 +123,7 @@ loop-again c =
     let i = l .loop .i in
     let sound : faultyLevel es pool i ≡ false =
     ⊎-elim
-    (λ w. fits es pool i _ (sym (w .2 .ensures) ∙ ap measurementTold (w .4 .given .1)))
+    (λ w. fits es pool i _ (sym (w .2 .ensures) ∙ ap measuredSize (w .4 .given .1)))
     (λ w.
     ap not
     (unfolds-whole (mappingOf es pool) (codeAt es i)

@@ -6,11 +6,11 @@ use mathlib.Core.List.{List, []}
 use Prim.Native.Nat.{ℕ}
 use borrow.Author.Needs.{needs}
 use Rattle.terms.specs.Lists.{orElse, lowest}
-use Rattle.terms.specs.Refusals.{refused, given, answer}
+use Rattle.terms.specs.Refusals.{refused, gives, answer}
 use Rattle.terms.specs.declared.Refusal.{Refusal}
 use Rattle.terms.proofs.Checks.{answer-given}
 use Rattle.table.specs.Table.{entryCount, refusedAt, formRefusal}
-use Rattle.table.specs.Promises.{checkTold}
+use Rattle.table.specs.Promises.{checkOutcome}
 use Rattle.decompose.specs.TableCheck.{faultyLevel, tableRefusal, tableAnswer}
 use Rattle.decompose.proofs.check_table.Statement.{statement}
 use Rattle.decompose.proofs.check_table.Tie as tie
@@ -41,7 +41,7 @@ abbrev start : tie.After-enum-told → tie.Start
 start c = c .before .before .before .before .before
 
 form : (c : tie.After-enum-told) → formRefusal (start c .args .entries .now) (start c .args .pool .now) ≡ none
-form c = answer-given _ _ _ (sym (ap checkTold (c .enum-told .given .1)) ∙ c .before .before .check-form .ensures)
+form c = answer-given _ _ _ (sym (ap checkOutcome (c .enum-told .given .1)) ∙ c .before .before .check-form .ensures)
 
 check-form-requires : tie.Need-check-form-requires
 check-form-requires c κs = search needs
@@ -68,7 +68,7 @@ returns-2 c =
     let checked = c .before .before .before in
     let s = checked .before .before .before in
     answer-form (s .args .entries .now) (s .args .pool .now) _
-    (sym (ap checkTold (c .before .form .given .1)) ∙ checked .check-form .ensures)
+    (sym (ap checkOutcome (c .before .form .given .1)) ∙ checked .check-form .ensures)
 
 pub check-table-spec : {M : Type 1} → statement M
 check-table-spec =

@@ -9,7 +9,7 @@ use borrow.Author.Needs.{needs}
 use Rattle.terms.specs.Refusals.{levelsMost}
 use Rattle.table.specs.Mapping.{Mapping}
 use Rattle.table.specs.Table.{entryCount, titleAt, formRefusal, entryOf, mappingOf}
-use Rattle.table.specs.Promises.{placeTold}
+use Rattle.table.specs.Promises.{placeFound}
 use Rattle.table.proofs.Form.{formed-ascending, entryOf-some}
 use Rattle.decompose.specs.Promises.{Bounded}
 use Rattle.decompose.proofs.Walk.{parts-none, counted-whole, bounded-unfolds, bounded-asks}
@@ -30,7 +30,7 @@ abbrev start : tie.After-i → tie.Start
 start c = c .before .before .before .before .before
 
 found : (c : tie.After-i) → entryOf (start c .args .entries .now) (start c .args .c .0) ≡ some (c .i .given .0 .0)
-found c = sym (c .before .before .find-entry .ensures) ∙ ap placeTold (c .i .given .1)
+found c = sym (c .before .before .find-entry .ensures) ∙ ap placeFound (c .i .given .1)
 
 entry : (c : tie.After-i) → c .i .given .0 .0 < entryCount (start c .args .entries .now)
 entry c = entryOf-some (start c .args .entries .now) (start c .args .c .0) (c .i .given .0 .0) (found c) .0
@@ -48,7 +48,7 @@ abbrev start-none : tie.After-enum-told → tie.Start
 start-none c = c .before .before .before .before .before
 
 missing : (c : tie.After-enum-told) → entryOf (start-none c .args .entries .now) (start-none c .args .c .0) ≡ none
-missing c = sym (c .before .before .find-entry .ensures) ∙ ap placeTold (c .enum-told .given .1)
+missing c = sym (c .before .before .find-entry .ensures) ∙ ap placeFound (c .enum-told .given .1)
 
 -- the code points ascend
 find-entry-requires : tie.Need-find-entry-requires

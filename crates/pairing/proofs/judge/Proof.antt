@@ -6,7 +6,7 @@ use mathlib.Core.Option.{none, some}
 use lib.ListN.{length}
 use Rattle.terms.proofs.Lowest.{lowest-some}
 use Rattle.pairing.specs.Pairing.{isTab, tabOf}
-use Rattle.pairing.specs.Promises.{tabTold}
+use Rattle.pairing.specs.Promises.{tabFound}
 use Rattle.pairing.proofs.Judging.{judges-long, judges-tabless, judges-compared}
 use borrow.Author.Needs.{needs}
 use Rattle.pairing.proofs.judge.Statement.{statement}
@@ -18,7 +18,7 @@ start c = c .before .before .before .before .before .before .before
 
 -- where it was found: it is the first tab
 tab-at : (c : tie.After-tab) → tabOf (start (c .before .before) .args .line .now) ≡ some (c .tab .given .0 .0)
-tab-at c = sym (c .before .before .find-tab .ensures) ∙ ap tabTold (c .tab .given .1)
+tab-at c = sym (c .before .before .find-tab .ensures) ∙ ap tabFound (c .tab .given .1)
 
 tab-below : (c : tie.After-tab) → c .tab .given .0 .0 < length (start (c .before .before) .args .line .now)
 tab-below c =
@@ -77,7 +77,7 @@ returns-3 : tie.Need-returns-3
 returns-3 c =
     let found = c .before .before .before in
     let a = start found .args in
-    let nowhere : tabOf (a .line .now) ≡ none = sym (found .find-tab .ensures) ∙ ap tabTold (c .before .enum-told .given .1) in
+    let nowhere : tabOf (a .line .now) ≡ none = sym (found .find-tab .ensures) ∙ ap tabFound (c .before .enum-told .given .1) in
     judges-tabless (a .line .now) (a .entries .now) (a .pool .now) (a .first-key .now) (a .second-key .now) (c .refuse2 .result)
     (found .before .if1 .left) nowhere (c .refuse2 .ensures)
 

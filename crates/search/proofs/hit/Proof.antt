@@ -1,7 +1,7 @@
 -- `search::hit` meets its contract: the two tests say whether the run is the covering one.
 -- Assumes nothing.
 use mathlib.Core.Path.{ap}
-use Rattle.terms.specs.Refusals.{given}
+use Rattle.terms.specs.Refusals.{gives}
 use Rattle.table.specs.Mapping.{Mapping}
 use Rattle.table.specs.Table.{mappingOf}
 use Rattle.prepare.proofs.Collations.{tableUnder-unicode}
@@ -35,7 +35,7 @@ returns c =
     let three = covered .before .before in
     let s = start (three .before) in
     let part = span (s .args .start .0) (s .args .end .0) in
-    ap (λ (run : Span). given (hitValues part run))
+    ap (λ (run : Span). gives (hitValues part run))
     (textRun-unicode (s .args .collation) (mapping (three .before)) (s .args .second .now) part _ (three .if1 .taken)
     (covered .cover .ensures))
 
@@ -45,7 +45,7 @@ returns-2 c =
     let three = c .before in
     let s = start (three .before) in
     let part = span (s .args .start .0) (s .args .end .0) in
-    ap (λ (run : Span). given (hitValues part run))
+    ap (λ (run : Span). gives (hitValues part run))
     (hits-invalid (s .args .collation) (mapping (three .before)) (s .args .second .now) (s .args .valid) (s .args .start .0)
     (s .args .end .0) (s .pre .1) (three .if1 .taken) (c .if2 .left))
 
@@ -54,7 +54,7 @@ returns-3 : tie.Need-returns-3
 returns-3 c =
     let s = start (c .before) in
     let part = span (s .args .start .0) (s .args .end .0) in
-    ap (λ (run : Span). given (hitValues part run))
+    ap (λ (run : Span). gives (hitValues part run))
     (textRun-other (s .args .collation) (mapping (c .before)) (s .args .second .now) part (c .if1 .left))
 
 pub hit-spec : {M : Type 1} → statement M

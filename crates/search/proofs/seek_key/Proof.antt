@@ -8,7 +8,7 @@ use borrow.Author.Needs.{needs}
 use Rattle.table.specs.Mapping.{Mapping}
 use Rattle.table.specs.Table.{mappingOf}
 use Rattle.occurrence.specs.Occurrence.{occurrence}
-use Rattle.occurrence.specs.Promises.{occurrenceTold}
+use Rattle.occurrence.specs.Promises.{placeFound}
 use Rattle.occurrence.proofs.Laws.{occurrence-within}
 use Rattle.search.proofs.Seeking.{found-hits}
 use Rattle.search.proofs.seek_key.Statement.{statement}
@@ -27,7 +27,7 @@ place c = c .found .given .0 .0 .0
 
 found : (c : tie.After-found) → let s = start (c .before .before) in
     occurrence (s .args .needle .now) (s .args .hay .now) ≡ some (place c)
-found c = sym (c .before .before .find .ensures) ∙ ap occurrenceTold (c .found .given .1)
+found c = sym (c .before .before .find .ensures) ∙ ap placeFound (c .found .given .1)
 
 find-requires : tie.Need-find-requires
 find-requires c κs = search needs
@@ -65,7 +65,7 @@ returns-2 c =
     let called = c .before .before in
     let s = start called in
     let nowhere : occurrence (s .args .needle .now) (s .args .hay .now) ≡ none =
-    sym (called .find .ensures) ∙ ap occurrenceTold (c .enum-told .given .1) in
+    sym (called .find .ensures) ∙ ap placeFound (c .enum-told .given .1) in
     rw nowhere
 
 pub seek-key-spec : {M : Type 1} → statement M

@@ -2,7 +2,7 @@
 -- Assumes nothing.
 use mathlib.Core.Path.{_≡_, ap, _∙_}
 use borrow.Author.Needs.{needs}
-use Rattle.terms.specs.Refusals.{given}
+use Rattle.terms.specs.Refusals.{gives}
 use Rattle.table.specs.Mapping.{Mapping}
 use Rattle.table.specs.Table.{mappingOf}
 use Rattle.prepare.specs.Keys.{keyOf}
@@ -21,7 +21,7 @@ mapping c = mappingOf (start c .args .entries .now) (start c .args .pool .now)
 returns : tie.Need-returns
 returns c =
     let s = start (c .before) in
-    ap given (values-empty (s .args .collation) (mapping (c .before)) (s .args .first .now) (s .args .second .now) (c .if1 .taken))
+    ap gives (values-empty (s .args .collation) (mapping (c .before)) (s .args .first .now) (s .args .second .now) (c .if1 .taken))
 
 shown-part-requires : tie.Need-shown-part-requires
 shown-part-requires c κs = search needs

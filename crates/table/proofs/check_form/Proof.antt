@@ -8,15 +8,15 @@ use mathlib.Core.List.{List, [], _∷_}
 use lib.ListN.{length}
 use borrow.Author.Needs.{needs}
 use Rattle.terms.specs.Lists.{lowest}
-use Rattle.terms.specs.Refusals.{Told, check, first, answer}
+use Rattle.terms.specs.Refusals.{Outcome, check, first, answer}
 use Rattle.table.specs.Table.{entryCount, faultySize, faultyCode, entryFault, faultyNumber, refusedAt, formRefusal}
-use Rattle.table.specs.Promises.{checkTold, placeTold}
+use Rattle.table.specs.Promises.{checkOutcome, placeFound}
 use Rattle.table.proofs.Form.{sound-entries}
 use Rattle.table.proofs.check_form.Statement.{statement}
 use Rattle.table.proofs.check_form.Tie as tie
 
 -- the answer that what the four checks found comes to
-abbrev told : Bool → Option ℕ → Option ℕ → Option ℕ → Told
+abbrev told : Bool → Option ℕ → Option ℕ → Option ℕ → Outcome
 told b o4 o5 o6 = answer (first (check b 3 0 0 ∷ refusedAt 4 o4 ∷ refusedAt 5 o5 ∷ refusedAt 6 o6 ∷ [])) []
 
 -- the answer, where it is known what the checks found
@@ -41,11 +41,11 @@ size c = sym (c .before .is-faulty-size .ensures) ∙ c .if1 .left
 
 codes : (c : tie.After-enum-told) → let s = c .before .before .before in
     lowest (faultyCode (es s)) (entryCount (es s)) ≡ none
-codes c = sym (c .before .before .faulty-code .ensures) ∙ ap placeTold (c .enum-told .given .1)
+codes c = sym (c .before .before .faulty-code .ensures) ∙ ap placeFound (c .enum-told .given .1)
 
 entries : (c : tie.After-enum-told2) → let s = c .before .before .before .before .before .before in
     entryFault (es s) (pool s) ≡ none
-entries c = sym (c .before .before .faulty-entry .ensures) ∙ ap placeTold (c .enum-told2 .given .1)
+entries c = sym (c .before .before .faulty-entry .ensures) ∙ ap placeFound (c .enum-told2 .given .1)
 
 is-faulty-size-requires : tie.Need-is-faulty-size-requires
 is-faulty-size-requires c κs = search needs
@@ -72,8 +72,8 @@ returns-2 c =
     let at-i = c .before .before in
     let checked = at-i .before .before in
     let s = checked .before in
-    let fault = sym (checked .faulty-code .ensures) ∙ ap placeTold (at-i .i .given .1) in
-    ap checkTold (c .refused-at .ensures) ∙ answer-told (es s) (pool s) false _ _ _ (size s) fault refl refl
+    let fault = sym (checked .faulty-code .ensures) ∙ ap placeFound (at-i .i .given .1) in
+    ap checkOutcome (c .refused-at .ensures) ∙ answer-told (es s) (pool s) false _ _ _ (size s) fault refl refl
 
 enum-told : tie.Need-enum-told
 enum-told c = search needs
@@ -95,8 +95,8 @@ returns-3 c =
     let checked = at-i .before .before in
     let passed = checked .before in
     let s = passed .before .before .before in
-    let fault = sym (checked .faulty-entry .ensures) ∙ ap placeTold (at-i .i2 .given .1) in
-    ap checkTold (c .refused-at2 .ensures)
+    let fault = sym (checked .faulty-entry .ensures) ∙ ap placeFound (at-i .i2 .given .1) in
+    ap checkOutcome (c .refused-at2 .ensures)
     ∙ answer-told (es s) (pool s) false none _ _ (size s) (codes passed) fault refl
 
 enum-told-2 : tie.Need-enum-told-2
@@ -119,8 +119,8 @@ returns-4 c =
     let passed = checked .before in
     let past-codes = passed .before .before .before in
     let s = past-codes .before .before .before in
-    let fault = sym (checked .faulty-number .ensures) ∙ ap placeTold (at-i .i3 .given .1) in
-    ap checkTold (c .refused-at3 .ensures)
+    let fault = sym (checked .faulty-number .ensures) ∙ ap placeFound (at-i .i3 .given .1) in
+    ap checkOutcome (c .refused-at3 .ensures)
     ∙ answer-told (es s) (pool s) false none none _ (size s) (codes past-codes) (entries passed) fault
 
 enum-told-3 : tie.Need-enum-told-3
@@ -133,7 +133,7 @@ returns-5 c =
     let passed = checked .before in
     let past-codes = passed .before .before .before in
     let s = past-codes .before .before .before in
-    let numbers = sym (checked .faulty-number .ensures) ∙ ap placeTold (c .enum-told3 .given .1) in
+    let numbers = sym (checked .faulty-number .ensures) ∙ ap placeFound (c .enum-told3 .given .1) in
     answer-told (es s) (pool s) false none none none (size s) (codes past-codes) (entries passed) numbers
 
 pub check-form-spec : {M : Type 1} → statement M

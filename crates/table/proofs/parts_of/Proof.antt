@@ -5,7 +5,7 @@ use mathlib.Core.Path.{_≡_, sym, ap, _∙_}
 use mathlib.Core.Option.{some}
 use borrow.Author.Needs.{needs}
 use Rattle.table.specs.Table.{entryOf, partsIn}
-use Rattle.table.specs.Promises.{placeTold, Ascending}
+use Rattle.table.specs.Promises.{placeFound, Ascending}
 use Rattle.table.proofs.Form.{formed-ascending, entryOf-some}
 use Rattle.table.proofs.Search.{reached-none, reached→among}
 use Rattle.table.proofs.parts_of.Statement.{statement}
@@ -16,7 +16,7 @@ abbrev start : tie.After-i → tie.Start
 start c = c .before .before .before .before .before .before .before
 
 found : (c : tie.After-i) → entryOf (start c .args .entries .now) (start c .args .c .0) ≡ some (c .i .given .0 .0)
-found c = sym (c .before .before .find-around .ensures) ∙ ap placeTold (c .i .given .1)
+found c = sym (c .before .before .find-around .ensures) ∙ ap placeFound (c .i .given .1)
 
 -- the code points ascend
 ascending : (s : tie.Start) → Ascending (s .args .entries .now)
@@ -65,7 +65,7 @@ returns-3 : tie.Need-returns-3
 returns-3 c =
     let told = c .before in
     let s = told .before .before .before .before .before .before .before in
-    let nowhere = sym (told .before .before .find-around .ensures) ∙ ap placeTold (told .enum-told .given .1) in
+    let nowhere = sym (told .before .before .find-around .ensures) ∙ ap placeFound (told .enum-told .given .1) in
     sym (ap (partsIn (s .args .entries .now) (s .args .pool .now)) nowhere)
 
 pub parts-of-spec : {M : Type 1} → statement M

@@ -11,7 +11,7 @@ use lib.ListN.{length, drop, length-drop, drop-of-length-le}
 use lib.Seq.{drop-drop}
 use Rattle.terms.specs.Lists.{there}
 use Rattle.utf8.specs.Utf8.{Character, character, decode, characters}
-use Rattle.utf8.specs.Promises.{readingTold}
+use Rattle.utf8.specs.Promises.{characterRead}
 use Rattle.utf8.proofs.Characters.{characters-nil, characters-none}
 use Rattle.utf8.proofs.Fronts.{decode-fits, there-characters}
 use Rattle.utf8.proofs.is_valid.Statement.{statement}
@@ -38,7 +38,7 @@ abbrev read : tie.After-reading Inv-loop μ-loop → Character
 read c = character (c .reading .given .0 .0 .0) (c .reading .given .0 .1 .0)
 
 decoded : (c : tie.After-reading Inv-loop μ-loop) → decode (left-of (head c)) ≡ some (read c)
-decoded c = sym (c .before .before .read-character .ensures) ∙ ap readingTold (c .reading .given .1)
+decoded c = sym (c .before .before .read-character .ensures) ∙ ap characterRead (c .reading .given .1)
 
 -- the character takes an octet or more, and no more than are left
 fits : (c : tie.After-reading Inv-loop μ-loop)
@@ -85,7 +85,7 @@ returns : tie.Need-returns Inv-loop μ-loop
 returns c =
     let called = c .before .before in
     let l = called .before .before in
-    let e : decode (left-of l) ≡ none = sym (called .read-character .ensures) ∙ ap readingTold (c .enum-told .given .1) in
+    let e : decode (left-of l) ≡ none = sym (called .read-character .ensures) ∙ ap characterRead (c .enum-told .given .1) in
     let h : 0 < length (left-of l) = omega (arith, called .before .loop-test .taken, length-drop (l .loop .at) (text-of l)) in
     sym (l .loop .inv .1 ∙ ap there (characters-none (left-of l) e h))
 

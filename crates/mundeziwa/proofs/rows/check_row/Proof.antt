@@ -1,9 +1,9 @@
--- `mundeziwa::rows::check_row` meets its contract: each variant is a case of `checkTold`.
+-- `mundeziwa::rows::check_row` meets its contract: each variant is a case of `checkOutcome`.
 -- Assumes nothing.
 use mathlib.Core.Path.{sym, ap}
 use borrow.Author.Needs.{needs}
 use Rattle.terms.specs.Refusals.{row}
-use Rattle.table.specs.Promises.{checkTold}
+use Rattle.table.specs.Promises.{checkOutcome}
 use Rattle.mundeziwa.proofs.rows.check_row.Statement.{statement}
 use Rattle.mundeziwa.proofs.rows.check_row.Tie as tie
 
@@ -25,7 +25,7 @@ returns c = search needs
 
 -- refused
 returns-2 : tie.Need-returns-2
-returns-2 c = sym (ap (row 0) (ap checkTold (c .before .before .before .check .given .1)))
+returns-2 c = sym (ap (row 0) (ap checkOutcome (c .before .before .before .check .given .1)))
 
 pub check-row-spec : {M : Type 1} → statement M
 check-row-spec = tie.close (tie.spec enum-told enum-known-check cast-t4 cast-t5 returns returns-2)

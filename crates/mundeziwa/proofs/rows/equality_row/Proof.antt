@@ -1,9 +1,9 @@
--- `mundeziwa::rows::equality_row` meets its contract: each variant is a case of `equalityTold`.
+-- `mundeziwa::rows::equality_row` meets its contract: each variant is a case of `equalityOutcome`.
 -- Assumes nothing.
 use mathlib.Core.Path.{sym, ap}
 use borrow.Author.Needs.{needs}
 use Rattle.terms.specs.Refusals.{row}
-use Rattle.compare.specs.Compare.{equalityTold}
+use Rattle.compare.specs.Compare.{equalityOutcome}
 use Rattle.mundeziwa.proofs.rows.equality_row.Statement.{statement}
 use Rattle.mundeziwa.proofs.rows.equality_row.Tie as tie
 
@@ -30,7 +30,7 @@ returns-2 c = search needs
 
 -- refused
 returns-3 : tie.Need-returns-3
-returns-3 c = sym (ap (row 1) (ap equalityTold (c .before .before .before .equality .given .1)))
+returns-3 c = sym (ap (row 1) (ap equalityOutcome (c .before .before .before .equality .given .1)))
 
 pub equality-row-spec : {M : Type 1} → statement M
 equality-row-spec =

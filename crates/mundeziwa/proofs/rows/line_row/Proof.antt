@@ -1,8 +1,8 @@
--- `mundeziwa::rows::line_row` meets its contract: each variant is a case of `lineTold` and of `stateTold`.
+-- `mundeziwa::rows::line_row` meets its contract: each variant is a case of `lineOutcome` and of `stateAfter`.
 -- Assumes nothing.
 use mathlib.Core.Path.{sym, ap}
 use borrow.Author.Needs.{needs}
-use Rattle.ucd.specs.Builder.{lineTold, stateTold}
+use Rattle.ucd.specs.Builder.{lineOutcome, stateAfter}
 use Rattle.ucd.specs.declared.Line.{Line}
 use Rattle.mundeziwa.specs.Promises.{lineRow}
 use Rattle.mundeziwa.proofs.rows.line_row.Statement.{statement}
@@ -22,11 +22,11 @@ cast-t10 c = search needs
 
 -- taken
 returns : tie.Need-returns
-returns c = sym (ap (λ (l : Line). lineRow (lineTold l) (stateTold l)) (c .before .line .given .1))
+returns c = sym (ap (λ (l : Line). lineRow (lineOutcome l) (stateAfter l)) (c .before .line .given .1))
 
 -- refused
 returns-2 : tie.Need-returns-2
-returns-2 c = sym (ap (λ (l : Line). lineRow (lineTold l) (stateTold l)) (c .before .before .before .line2 .given .1))
+returns-2 c = sym (ap (λ (l : Line). lineRow (lineOutcome l) (stateAfter l)) (c .before .before .before .line2 .given .1))
 
 pub line-row-spec : {M : Type 1} → statement M
 line-row-spec =

@@ -1,9 +1,9 @@
--- `mundeziwa::rows::order_row` meets its contract: each variant is a case of `orderTold`.
+-- `mundeziwa::rows::order_row` meets its contract: each variant is a case of `orderOutcome`.
 -- Assumes nothing.
 use mathlib.Core.Path.{sym, ap}
 use borrow.Author.Needs.{needs}
 use Rattle.terms.specs.Refusals.{row}
-use Rattle.compare.specs.Compare.{orderTold}
+use Rattle.compare.specs.Compare.{orderOutcome}
 use Rattle.mundeziwa.proofs.rows.order_row.Statement.{statement}
 use Rattle.mundeziwa.proofs.rows.order_row.Tie as tie
 
@@ -36,7 +36,7 @@ returns-3 c = search needs
 
 -- refused
 returns-4 : tie.Need-returns-4
-returns-4 c = sym (ap (row 1) (ap orderTold (c .before .before .before .ordered .given .1)))
+returns-4 c = sym (ap (row 1) (ap orderOutcome (c .before .before .before .ordered .given .1)))
 
 pub order-row-spec : {M : Type 1} → statement M
 order-row-spec =

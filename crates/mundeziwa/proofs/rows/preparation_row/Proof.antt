@@ -1,10 +1,10 @@
--- `mundeziwa::rows::preparation_row` meets its contract: each variant is a case of `preparationTold`, and two of the numbers come
+-- `mundeziwa::rows::preparation_row` meets its contract: each variant is a case of `preparationOutcome`, and two of the numbers come
 -- from functions of their own.
 -- Assumes nothing.
 use mathlib.Core.Path.{sym, ap}
 use borrow.Author.Needs.{needs}
 use Rattle.terms.specs.Refusals.{row}
-use Rattle.prepare.specs.Calls.{preparationTold}
+use Rattle.prepare.specs.Calls.{preparationOutcome}
 use Rattle.mundeziwa.proofs.rows.preparation_row.Statement.{statement}
 use Rattle.mundeziwa.proofs.rows.preparation_row.Tie as tie
 
@@ -29,12 +29,12 @@ cast-t10 c = search needs
 -- prepared
 returns : tie.Need-returns
 returns c =
-    let told = sym (ap (row 4) (ap preparationTold (c .before .before .before .preparation .given .1))) in
+    let told = sym (ap (row 4) (ap preparationOutcome (c .before .before .before .preparation .given .1))) in
     rw (c .before .truth-number .ensures, c .place-number .ensures) told
 
 -- refused
 returns-2 : tie.Need-returns-2
-returns-2 c = sym (ap (row 4) (ap preparationTold (c .before .before .before .preparation2 .given .1)))
+returns-2 c = sym (ap (row 4) (ap preparationOutcome (c .before .before .before .preparation2 .given .1)))
 
 pub preparation-row-spec : {M : Type 1} → statement M
 preparation-row-spec =

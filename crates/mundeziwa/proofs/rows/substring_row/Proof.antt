@@ -1,9 +1,9 @@
--- `mundeziwa::rows::substring_row` meets its contract: each variant is a case of `substringTold`.
+-- `mundeziwa::rows::substring_row` meets its contract: each variant is a case of `substringOutcome`.
 -- Assumes nothing.
 use mathlib.Core.Path.{sym, ap}
 use borrow.Author.Needs.{needs}
 use Rattle.terms.specs.Refusals.{row}
-use Rattle.search.specs.Substring.{substringTold}
+use Rattle.search.specs.Substring.{substringOutcome}
 use Rattle.mundeziwa.proofs.rows.substring_row.Statement.{statement}
 use Rattle.mundeziwa.proofs.rows.substring_row.Tie as tie
 
@@ -24,14 +24,14 @@ cast-t13 c = search needs
 
 -- match
 returns : tie.Need-returns
-returns c = sym (ap (row 5) (ap substringTold (c .before .sought .given .1)))
+returns c = sym (ap (row 5) (ap substringOutcome (c .before .sought .given .1)))
 
 returns-2 : tie.Need-returns-2
 returns-2 c = search needs
 
 -- refused
 returns-3 : tie.Need-returns-3
-returns-3 c = sym (ap (row 5) (ap substringTold (c .before .before .before .sought2 .given .1)))
+returns-3 c = sym (ap (row 5) (ap substringOutcome (c .before .before .before .sought2 .given .1)))
 
 pub substring-row-spec : {M : Type 1} → statement M
 substring-row-spec =

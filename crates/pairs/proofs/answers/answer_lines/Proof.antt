@@ -9,7 +9,7 @@ use borrow.Author.Needs.{needs}
 use lib.ListN.{length}
 use Rattle.pairs.specs.Reading.{Stands, Goes, HasRoom, Answers}
 use Rattle.pairs.specs.declared.answers.Answered.{Answered}
-use Rattle.pairs.specs.declared.answers.Answered.the-variants.{Answer as Told, Nothing}
+use Rattle.pairs.specs.declared.answers.Answered.the-variants.{Answer as Outcome, Nothing}
 use Rattle.pairs.proofs.Going.{stands-same, stands-anywhere}
 use Rattle.pairs.proofs.answers.answer_lines.Statement.{statement}
 use Rattle.pairs.proofs.answers.answer_lines.Tie as tie
@@ -67,7 +67,7 @@ told-at : (a : tie.After-add-answer Inv-loop μ-loop)
     Goes (length (l .buffer)) (l .reader .left) (a .before .before .before .answered .given .0 .1 .0)
 told-at a =
     let k = a .before .before .before in
-    came (called k) (Told (k .answered .given .0 .0) (k .answered .given .0 .1 .0)) (k .answered .given .1)
+    came (called k) (Outcome (k .answered .given .0 .0) (k .answered .given .0 .1 .0)) (k .answered .given .1)
 
 -- where a read failed
 abbrev called2 : tie.After-answered2 Inv-loop μ-loop → tie.After-answer-next Inv-loop μ-loop

@@ -6,9 +6,9 @@ use mathlib.Core.Option.{none, some}
 use mathlib.Core.List.{List, []}
 use borrow.Author.Needs.{needs}
 use borrow.Author.Tests.{eq-eqb, ne-eqb}
-use Rattle.terms.specs.Refusals.{refused, given}
+use Rattle.terms.specs.Refusals.{refused, gives}
 use Rattle.terms.specs.declared.Refusal.{Refusal}
-use Rattle.table.specs.Promises.{checkTold}
+use Rattle.table.specs.Promises.{checkOutcome}
 use Rattle.decompose.specs.TableCheck.{tableAnswer}
 use Rattle.prepare.specs.Calls.{tableUnder}
 use Rattle.terms.proofs.Checks.{answer-given, answer-refused}
@@ -16,7 +16,7 @@ use Rattle.prepare.proofs.checks.check_table_under.Statement.{statement
 use Rattle.prepare.proofs.checks.check_table_under.Tie as tie
 
 -- the table is accepted
-under-accepted : (k : ℕ) (es pool : List ℕ) → k ≡ 3 → given [] ≡ tableAnswer es pool → none ≡ tableUnder k es pool
+under-accepted : (k : ℕ) (es pool : List ℕ) → k ≡ 3 → gives [] ≡ tableAnswer es pool → none ≡ tableUnder k es pool
 under-accepted k es pool e h = rw (eq-eqb k 3 e) (sym (answer-given _ [] [] h))
 
 -- the table is refused
@@ -43,7 +43,7 @@ returns-2 c =
     let called = c .before .before in
     let at-if = called .before in
     let args = at-if .before .before .before .args in
-    let told = sym (ap checkTold (c .enum-told .given .1)) ∙ called .check-table .ensures in
+    let told = sym (ap checkOutcome (c .enum-told .given .1)) ∙ called .check-table .ensures in
     under-accepted (args .collation) (args .entries .now) (args .pool .now) (at-if .if1 .left) told
 
 -- refused
@@ -53,7 +53,7 @@ returns-3 c =
     let called = known .before .before in
     let at-if = called .before in
     let args = at-if .before .before .before .args in
-    let told = sym (ap checkTold (known .table .given .1)) ∙ called .check-table .ensures in
+    let told = sym (ap checkOutcome (known .table .given .1)) ∙ called .check-table .ensures in
     under-refused (args .collation) (args .entries .now) (args .pool .now) _ (at-if .if1 .left) told
 
 pub check-table-under-spec : {M : Type 1} → statement M

@@ -10,7 +10,7 @@ use mathlib.Core.List.{List}
 use lib.ListN.{length, take, drop, length-set}
 use Rattle.terms.specs.Refusals.{partsMost}
 use Rattle.ucd.specs.Fields.{codePoint}
-use Rattle.ucd.specs.Promises.{pieceEnd, numberTold}
+use Rattle.ucd.specs.Promises.{pieceEnd, numberRead}
 use Rattle.ucd.proofs.Cutting.{stands-most}
 use Rattle.ucd.proofs.Listing.{pieceAt, Lists, lists-first, lists-none, lists-many, lists-last, lists-more}
 use Rattle.ucd.proofs.parts.read_listed.Statement.{statement}
@@ -31,7 +31,7 @@ abbrev head : tie.After-read-code-point Inv-loop μ-loop → tie.At-loop Inv-loo
 head r = r .before .before .before .before
 
 piece : (r : tie.After-read-code-point Inv-loop μ-loop)
-    → numberTold (r .read-code-point .result) ≡ codePoint (pieceAt (text-of (head r)) (head r .loop .at))
+    → numberRead (r .read-code-point .result) ≡ codePoint (pieceAt (text-of (head r)) (head r .loop .at))
 piece r =
     let at = head r .loop .at in
     let rest = drop at (text-of (head r)) in
@@ -49,7 +49,7 @@ code d = d .before .read .given .0 .0
 written : (d : tie.After-known-told Inv-loop μ-loop)
     → let l = head (was-read d) in
     codePoint (pieceAt (text-of l) (l .loop .at)) ≡ some (code d)
-written d = sym (piece (was-read d)) ∙ ap numberTold (d .before .read .given .1)
+written d = sym (piece (was-read d)) ∙ ap numberRead (d .before .read .given .1)
 
 room : (d : tie.After-known-told Inv-loop μ-loop)
     → let l = head (was-read d) in
@@ -100,7 +100,7 @@ returns : tie.Need-returns Inv-loop μ-loop
 returns c =
     let r = c .before .before in
     let l = head r .loop in
-    let e : codePoint (pieceAt (text-of (head r)) (l .at)) ≡ none = sym (piece r) ∙ ap numberTold (c .enum-told .given .1) in
+    let e : codePoint (pieceAt (text-of (head r)) (l .at)) ≡ none = sym (piece r) ∙ ap numberRead (c .enum-told .given .1) in
     record { told = sym (lists-none (text-of (head r)) (l .parts) (l .at) (l .count) (l .inv .2) e); within = search needs }
 
 mul-parts : tie.Need-mul-parts Inv-loop μ-loop

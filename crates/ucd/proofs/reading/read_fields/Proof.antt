@@ -7,7 +7,7 @@ use borrow.Author.Needs.{needs}
 use lib.ListN.{take}
 use Rattle.terms.specs.Refusals.{partsMost}
 use Rattle.ucd.specs.Fields.{codePoint, decomposition}
-use Rattle.ucd.specs.Promises.{numberTold, partsTold, partsCount}
+use Rattle.ucd.specs.Promises.{numberRead, partsRead, partsCount}
 use Rattle.ucd.specs.declared.parts.Parts.{Parts}
 use Rattle.ucd.proofs.Faults.{read-22, read-23, read-24, read-says}
 use Rattle.ucd.proofs.reading.read_fields.Statement.{statement}
@@ -20,7 +20,7 @@ args-of r = r .before .before .before .before .before
 -- where field 0 was a code point
 code-read : (d : tie.After-known-told)
     → codePoint (args-of (d .before .before .before) .args .code .now) ≡ some (d .before .read .given .0 .0)
-code-read d = sym (d .before .before .before .read-code-point .ensures) ∙ ap numberTold (d .before .read .given .1)
+code-read d = sym (d .before .before .before .read-code-point .ensures) ∙ ap numberRead (d .before .read .given .1)
 
 -- where field 5 was read, and where it was parts: the place where field 0 was a code point
 abbrev coded : tie.After-read-parts → tie.After-known-told
@@ -37,7 +37,7 @@ parts-read : (p : tie.After-known-told2)
     ≡ some (take (p .before .listed .given .0 .0) (listing p .read-parts .last .1 .0))
 parts-read p =
     sym (listing p .read-parts .ensures .told)
-    ∙ ap (λ (r : Parts). partsTold r (listing p .read-parts .last .1 .0)) (p .before .listed .given .1)
+    ∙ ap (λ (r : Parts). partsRead r (listing p .read-parts .last .1 .0)) (p .before .listed .given .1)
 
 few : (p : tie.After-known-told2) → p .before .listed .given .0 .0 ≤ partsMost
 few p = subst (λ (r : Parts). partsCount r ≤ partsMost) (p .before .listed .given .1) (listing p .read-parts .ensures .within)
@@ -57,7 +57,7 @@ returns c =
     let r = c .before .before in
     let a = args-of r .args in
     read-22 (a .code .now) (a .decomposition .now) (a .title .now) (a .parts .now)
-    (sym (r .read-code-point .ensures) ∙ ap numberTold (c .enum-told .given .1))
+    (sym (r .read-code-point .ensures) ∙ ap numberRead (c .enum-told .given .1))
 
 read-parts-requires : tie.Need-read-parts-requires
 read-parts-requires c κs = search needs
@@ -80,7 +80,7 @@ returns-2 c =
     (coded p .before .read .given .0 .0)
     (code-read (coded p))
     (sym (p .read-parts .ensures .told)
-    ∙ ap (λ (r : Parts). partsTold r (p .read-parts .last .1 .0)) (c .enum-told2 .given .1))
+    ∙ ap (λ (r : Parts). partsRead r (p .read-parts .last .1 .0)) (c .enum-told2 .given .1))
 
 read-titlecase-requires : tie.Need-read-titlecase-requires
 read-titlecase-requires c κs = search needs
@@ -106,7 +106,7 @@ returns-3 c =
     (take (d .before .listed .given .0 .0) (p .read-parts .last .1 .0))
     (code-read (coded p))
     (parts-read d)
-    (sym (t .read-titlecase .ensures) ∙ ap numberTold (c .enum-told3 .given .1))
+    (sym (t .read-titlecase .ensures) ∙ ap numberRead (c .enum-told3 .given .1))
 
 same-length-3 : tie.Need-same-length-3
 same-length-3 c = search needs
@@ -126,7 +126,7 @@ returns-4 c =
     })
     (code-read (coded p))
     (parts-read d)
-    (sym (t .read-titlecase .ensures) ∙ ap numberTold (c .before .cased .given .1))
+    (sym (t .read-titlecase .ensures) ∙ ap numberRead (c .before .cased .given .1))
     (few d)
 
 pub read-fields-spec : {M : Type 1} → statement M
