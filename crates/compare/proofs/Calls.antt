@@ -1,74 +1,88 @@
 -- What the two halves of a comparing call come to: the order of the keys that two prepared texts show is the order of the texts,
 -- and equality goes by the order.
 -- Assumes nothing.
-use mathlib.Core.Path.{_≡_, refl, _∙_}
+use mathlib.Core.Path.{_≡_, refl, sym, ap, _∙_}
+use mathlib.Core.Bool.{true≢false}
 use Prim.Native.Nat.{ℕ, Ordering, Ordering·lt, Ordering·eq, Ordering·gt}
 use mathlib.Core.Option.{Option, none, some}
 use mathlib.Core.List.{List, [], _∷_}
-use Rattle.terms.specs.Refusals.{answer, gives}
+use Rattle.terms.specs.Refusals.{refused, gives}
+use Rattle.terms.specs.declared.Collation.{Collation}
 use Rattle.terms.specs.declared.Refusal.{Refusal}
-use Rattle.table.specs.Table.{mappingOf}
-use Rattle.prepare.specs.Calls.{shownAt, compareRefusal}
-use Rattle.prepare.specs.Promises.{PreparesTwo}
-use Rattle.prepare.specs.declared.Summary.{Summary}
+use Rattle.octets.specs.Order.{orderOf}
+use Rattle.keys.specs.Tables.{Table}
+use Rattle.keys.specs.Keys.{PreparedText}
+use Rattle.keys.specs.Summaries.{shownAt}
+use Rattle.keys.specs.declared.Summary.{Summary}
+use Rattle.prepare.specs.Calls.{Lent, Call, call, preparedIn, callRefusal, answerOf, Called}
+use Rattle.prepare.specs.Preparing.{preparedValues, pairOutcome}
 use Rattle.prepare.specs.declared.PreparedPair.{PreparedPair}
-use Rattle.prepare.specs.declared.PreparedPair.the-variants.{Both, Refused as Neither}
-use Rattle.prepare.proofs.Shown.{shown-both, shown-neither}
-use Rattle.compare.specs.KeyOrder.{orderOf}
-use Rattle.compare.specs.Compare.{equalityOutcome, orderOutcome, orderNumber, equalityNumber, textOrder}
-use Rattle.compare.specs.Promises.{equalityBy, Equals, Orders}
+use Rattle.prepare.specs.declared.PreparedPair.the-variants.{Both}
+use Rattle.prepare.proofs.Answering.{answered-gives}
+use Rattle.prepare.proofs.CallRefusals.{unrefused-known}
+use Rattle.prepare.proofs.Shown.{shown-both}
+use Rattle.compare.specs.Compare.{equalityOutcome, orderOutcome, orderNumber, equalityNumber, compared, orderValues, equalityValues, orderedBy, equalityBy}
 use Rattle.compare.specs.declared.Ordered.{Ordered}
 use Rattle.compare.specs.declared.Ordered.the-variants.{Less, Equal, Greater, Refused as Unordered}
 
--- the answers of order and of equality by it: the same refusal, and a match where the order is a tie
-pub equality-by-order : (r : Ordered) (x : Option Refusal) (o : Ordering)
-    → orderOutcome r ≡ answer x (orderNumber o ∷ [])
-    → equalityOutcome (equalityBy r) ≡ answer x (equalityNumber o ∷ [])
-equality-by-order Less (some x) o e = cc
-equality-by-order Less none Ordering·lt e = refl
-equality-by-order Less none Ordering·eq e = cc
-equality-by-order Less none Ordering·gt e = cc
-equality-by-order Equal (some x) o e = cc
-equality-by-order Equal none Ordering·lt e = cc
-equality-by-order Equal none Ordering·eq e = refl
-equality-by-order Equal none Ordering·gt e = cc
-equality-by-order Greater (some x) o e = cc
-equality-by-order Greater none Ordering·lt e = cc
-equality-by-order Greater none Ordering·eq e = cc
-equality-by-order Greater none Ordering·gt e = refl
-equality-by-order (Unordered y) none o e = cc
-equality-by-order (Unordered y) (some x) o e = cc
+-- ---- order
 
-module _ (k : ℕ) (s t es pool sBuffer tBuffer sAfter tAfter : List ℕ) where
-  module _ (p : PreparedPair) (h : PreparesTwo k s t es pool sBuffer tBuffer p sAfter tAfter) where
-    -- two texts were prepared, and what they show was ordered
-    pub orders-shown : (one two : Summary) (r : Ordered) → p ≡ Both one two
-        → orderOutcome r
-        ≡ gives (orderNumber (orderOf (shownAt (one .place) (one .«key_length») s sAfter) (shownAt (two .place) (two .«key_length») t tAfter)) ∷ [])
-        → Orders k s t es pool sBuffer tBuffer r sAfter tAfter
-    orders-shown one two r e told =
-        let shown = shown-both k s t es pool sBuffer tBuffer p sAfter tAfter h one two e in
-        record {
-          answered = told ∙ rw (shown .first, shown .second, shown .taken);
-          firstLeft = h .firstLeft;
-          secondLeft = h .secondLeft;
-        }
+-- an order of keys as an answer gives its number
+pub orderOutcome-orderedBy : (o : Ordering) → orderOutcome (orderedBy o) ≡ gives (orderNumber o ∷ [])
+orderOutcome-orderedBy Ordering·lt = refl
+orderOutcome-orderedBy Ordering·eq = refl
+orderOutcome-orderedBy Ordering·gt = refl
 
-    -- one was refused
-    pub orders-refused : (x : Refusal) → p ≡ Neither x → Orders k s t es pool sBuffer tBuffer (Unordered x) sAfter tAfter
-    orders-refused x e = record {
-      answered = rw (shown-neither k s t es pool sBuffer tBuffer p sAfter tAfter h x e);
-      firstLeft = h .firstLeft;
-      secondLeft = h .secondLeft;
+-- two texts were prepared, and what they show was ordered
+pub orders-shown : {o : Option Collation} {t : Table} {l m : Lent} {p : PreparedPair} {sAfter tAfter : List ℕ} {one two : Summary} {r : Ordered}
+    → Called pairOutcome preparedValues (call o t (l ∷ m ∷ [])) p (sAfter ∷ tAfter ∷ [])
+    → p ≡ Both one two
+    → r
+    ≡ orderedBy (orderOf (shownAt (one .place) (one .«key_length») (l .text) sAfter) (shownAt (two .place) (two .«key_length») (m .text) tAfter))
+    → Called orderOutcome orderValues (call o t (l ∷ m ∷ [])) r (sAfter ∷ tAfter ∷ [])
+orders-shown {o = none} {t} {l} {m} h e told =
+    let unrefused = answered-gives h _ (ap pairOutcome e) .0 in
+    absurd (true≢false (sym (unrefused-known none t (l ∷ m ∷ []) unrefused)))
+orders-shown {o = some k} h e told =
+    let shown = shown-both h e in
+    record {
+      answered = rw (told, shown .first, shown .second, shown .unrefused, orderOutcome-orderedBy);
+      left = h .left;
     }
 
-  -- texts that were ordered are compared for equality
-  pub equals-by : (r : Ordered) → Orders k s t es pool sBuffer tBuffer r sAfter tAfter
-      → Equals k s t es pool sBuffer tBuffer (equalityBy r) sAfter tAfter
-  equals-by r h = record {
-    answered =
-        equality-by-order r (compareRefusal k s t es pool sBuffer tBuffer) (textOrder k (mappingOf es pool) s t)
-        (h .answered);
-    firstLeft = h .firstLeft;
-    secondLeft = h .secondLeft;
-  }
+-- ---- equality by the order
+
+-- a match where the order is a tie
+equality-by-number : (r : Ordered) (o : Ordering) → orderOutcome r ≡ gives (orderNumber o ∷ [])
+    → equalityOutcome (equalityBy r) ≡ gives (equalityNumber o ∷ [])
+equality-by-number Less Ordering·lt e = refl
+equality-by-number Less Ordering·eq e = cc
+equality-by-number Less Ordering·gt e = cc
+equality-by-number Equal Ordering·lt e = cc
+equality-by-number Equal Ordering·eq e = refl
+equality-by-number Equal Ordering·gt e = cc
+equality-by-number Greater Ordering·lt e = cc
+equality-by-number Greater Ordering·eq e = cc
+equality-by-number Greater Ordering·gt e = refl
+equality-by-number (Unordered y) o e = cc
+
+-- the same refusal
+equality-refused : (r : Ordered) (x : Refusal) → orderOutcome r ≡ refused x → equalityOutcome (equalityBy r) ≡ refused x
+equality-refused Less x e = cc
+equality-refused Equal x e = cc
+equality-refused Greater x e = cc
+equality-refused (Unordered y) x e = e
+
+equality-by-order : (r : Ordered) (x : Option Refusal) (ps : List PreparedText)
+    → some (orderOutcome r) ≡ answerOf x (compared orderNumber ps)
+    → some (equalityOutcome (equalityBy r)) ≡ answerOf x (compared equalityNumber ps)
+equality-by-order r (some x) ps e = ap some (equality-refused r x (cc))
+equality-by-order r none [] e = cc
+equality-by-order r none (p ∷ []) e = cc
+equality-by-order r none (p ∷ q ∷ []) e = ap some (equality-by-number r (orderOf (p .key) (q .key)) (cc))
+equality-by-order r none (p ∷ q ∷ s ∷ ps) e = cc
+
+-- texts that were ordered are compared for equality
+pub equals-by : {c : Call} {r : Ordered} {after : List (List ℕ)} → Called orderOutcome orderValues c r after
+    → Called equalityOutcome equalityValues c (equalityBy r) after
+equals-by {c} {r} h = record { answered = equality-by-order r (callRefusal c) (preparedIn c) (h .answered); left = h .left }

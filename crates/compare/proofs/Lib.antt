@@ -1,6 +1,4 @@
-pub mod Answers
 pub mod Calls
-pub mod KeyOrder
+pub mod Injective
 pub mod Preorder
 pub mod Says
-pub mod TextOrder

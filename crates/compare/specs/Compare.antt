@@ -1,21 +1,20 @@
--- What equality and order answer. What they leave in the two key buffers is `firstLeaves` and `secondLeaves` of the crate prepare.
+-- What equality and order answer, in the paper's numbers. `Called` of the crate prepare says the rest of such a call.
 -- Assumes nothing.
 use Prim.Native.Nat.{ℕ, Ordering, Ordering·lt, Ordering·eq, Ordering·gt}
-use mathlib.Core.List.{List, [], _∷_}
-use lib.Dec.{isEq}
 use mathlib.Core.Bool.{cond}
-use Rattle.terms.specs.Refusals.{answer, Outcome, refused, gives}
-use Rattle.table.specs.Mapping.{Mapping}
-use Rattle.table.specs.Table.{mappingOf}
-use Rattle.prepare.specs.Keys.{keyOf}
-use Rattle.prepare.specs.Calls.{compareRefusal}
-use Rattle.compare.specs.KeyOrder.{orderOf}
+use mathlib.Core.List.{List, [], _∷_}
+use mathlib.Core.Option.{Option, none, some}
+use lib.Dec.{isEq}
+use Rattle.terms.specs.Refusals.{Outcome, refused, gives}
+use Rattle.octets.specs.Order.{orderOf}
+use Rattle.keys.specs.Keys.{PreparedText}
+use Rattle.prepare.specs.Calls.{Call, preparedIn}
 use Rattle.compare.specs.declared.Equality.{Equality}
 use Rattle.compare.specs.declared.Equality.the-variants.{Match, NoMatch, Refused}
 use Rattle.compare.specs.declared.Ordered.{Ordered}
 use Rattle.compare.specs.declared.Ordered.the-variants.{Less, Equal, Greater, Refused as Unordered}
 
--- ---- the answers in the paper's numbers
+-- ---- the answers
 
 -- equality: 1 match, 2 no-match
 abbrev pub equalityOutcome : Equality → Outcome
@@ -42,16 +41,34 @@ equalityNumber o = cond (isEq o) 1 2
 
 -- ---- the calls
 
--- the order of two texts' keys under a collation
-abbrev pub textOrder : ℕ → Mapping → List ℕ → List ℕ → Ordering
-textOrder k m s t = orderOf (keyOf k m s) (keyOf k m t)
+-- a number by the order of two texts' keys; nothing where the texts are not two
+abbrev pub compared : (Ordering → ℕ) → List PreparedText → Option (List ℕ)
+compared number [] = none
+compared number (p ∷ []) = none
+compared number (p ∷ q ∷ []) = some (number (orderOf (p .key) (q .key)) ∷ [])
+compared number (p ∷ q ∷ r ∷ ps) = none
 
--- what equality of two texts answers
-abbrev pub equalAnswer : ℕ → List ℕ → List ℕ → List ℕ → List ℕ → List ℕ → List ℕ → Outcome
-equalAnswer k s t es pool sBuffer tBuffer =
-    answer (compareRefusal k s t es pool sBuffer tBuffer) (equalityNumber (textOrder k (mappingOf es pool) s t) ∷ [])
+-- the values of a comparing call, of order and of equality
+abbrev pub comparedValues : (Ordering → ℕ) → Call → Option (List ℕ)
+comparedValues number c = compared number (preparedIn c)
 
--- what order of two texts answers
-abbrev pub orderAnswer : ℕ → List ℕ → List ℕ → List ℕ → List ℕ → List ℕ → List ℕ → Outcome
-orderAnswer k s t es pool sBuffer tBuffer =
-    answer (compareRefusal k s t es pool sBuffer tBuffer) (orderNumber (textOrder k (mappingOf es pool) s t) ∷ [])
+abbrev pub orderValues : Call → Option (List ℕ)
+orderValues c = comparedValues orderNumber c
+
+abbrev pub equalityValues : Call → Option (List ℕ)
+equalityValues c = comparedValues equalityNumber c
+
+-- ---- answers by an order of keys
+
+-- an order of keys as an answer
+abbrev pub orderedBy : Ordering → Ordered
+orderedBy Ordering·lt = Less
+orderedBy Ordering·eq = Equal
+orderedBy Ordering·gt = Greater
+
+-- equality by an order: keys are equal where neither is less
+abbrev pub equalityBy : Ordered → Equality
+equalityBy Less = NoMatch
+equalityBy Equal = Match
+equalityBy Greater = NoMatch
+equalityBy (Unordered r) = Refused r

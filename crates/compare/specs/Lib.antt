@@ -1,3 +1,1 @@
-pub mod KeyOrder
 pub mod Compare
-pub mod Promises

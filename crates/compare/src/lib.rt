@@ -1,17 +1,20 @@
 // Equality and order of two texts under a collation (document 01, "The collations").
 //
 // `equal` and `order` take any arguments at all; the `_accepted` ones ask for a table that is accepted already.
+use keys::Summary;
+use octets::Comparison;
+use prepare::CallCheck;
 use prepare::PreparedPair;
-use prepare::Summary;
 use terms::Refusal;
 ghost use mathlib.Core.Path.{_≡_};
 ghost use mathlib.Core.List.{[], _∷_};
 ghost use mathlib.Core.Option.{none};
-ghost use Rattle.terms.specs.Refusals.{gives};
-ghost use Rattle.prepare.specs.Calls.{tableUnder, shownAt};
-ghost use Rattle.compare.specs.KeyOrder.{orderOf};
-ghost use Rattle.compare.specs.Compare.{orderOutcome, orderNumber};
-ghost use Rattle.compare.specs.Promises.{equalityBy, Equals, Orders};
+ghost use Rattle.terms.specs.Collations.{collationOf};
+ghost use Rattle.octets.specs.Order.{orderOf};
+ghost use Rattle.keys.specs.Tables.{table};
+ghost use Rattle.keys.specs.Summaries.{shownAt};
+ghost use Rattle.prepare.specs.Calls.{tableCheck, twoCall, Called};
+ghost use Rattle.compare.specs.Compare.{orderOutcome, equalityOutcome, orderValues, equalityValues, orderedBy, equalityBy};
 
 // Whether two texts are equal under a collation.
 pub enum Equality {
@@ -38,7 +41,7 @@ pub fn equal(
     first_key: &mut [u8],
     second_key: &mut [u8],
 ) -> Equality
-    ensures { λ r. ⌜ Equals collation (now (first .entry)) (now (second .entry)) (now (entries .entry)) (now (pool .entry)) (now («first_key» .entry)) (now («second_key» .entry)) r (now («first_key» .exit)) (now («second_key» .exit)) ⌝ }
+    ensures { λ r. ⌜ Called equalityOutcome equalityValues (twoCall (collationOf collation) (now (first .entry)) (now (second .entry)) (now (entries .entry)) (now (pool .entry)) (now («first_key» .entry)) (now («second_key» .entry))) r (now («first_key» .exit) ∷ now («second_key» .exit) ∷ []) ⌝ }
 {
     let ordered = order(
         collation,
@@ -62,8 +65,8 @@ pub fn equal_accepted(
     first_key: &mut [u8],
     second_key: &mut [u8],
 ) -> Equality
-    requires { ⌜ tableUnder collation (now entries) (now pool) ≡ none ⌝ }
-    ensures { λ r. ⌜ Equals collation (now (first .entry)) (now (second .entry)) (now (entries .entry)) (now (pool .entry)) (now («first_key» .entry)) (now («second_key» .entry)) r (now («first_key» .exit)) (now («second_key» .exit)) ⌝ }
+    requires { ⌜ tableCheck (collationOf collation) (table (now entries) (now pool)) ≡ none ⌝ }
+    ensures { λ r. ⌜ Called equalityOutcome equalityValues (twoCall (collationOf collation) (now (first .entry)) (now (second .entry)) (now (entries .entry)) (now (pool .entry)) (now («first_key» .entry)) (now («second_key» .entry))) r (now («first_key» .exit) ∷ now («second_key» .exit) ∷ []) ⌝ }
 {
     let ordered = order_accepted(
         collation,
@@ -87,20 +90,20 @@ pub fn order(
     first_key: &mut [u8],
     second_key: &mut [u8],
 ) -> Ordered
-    ensures { λ r. ⌜ Orders collation (now (first .entry)) (now (second .entry)) (now (entries .entry)) (now (pool .entry)) (now («first_key» .entry)) (now («second_key» .entry)) r (now («first_key» .exit)) (now («second_key» .exit)) ⌝ }
+    ensures { λ r. ⌜ Called orderOutcome orderValues (twoCall (collationOf collation) (now (first .entry)) (now (second .entry)) (now (entries .entry)) (now (pool .entry)) (now («first_key» .entry)) (now («second_key» .entry))) r (now («first_key» .exit) ∷ now («second_key» .exit) ∷ []) ⌝ }
 {
-    let pair = prepare::prepare_two(
-        collation,
-        first,
-        second,
-        entries,
-        pool,
-        first_key,
-        second_key,
-    );
-    match pair {
-        PreparedPair::Both(one, two) => order_shown(first, first_key, one, second, second_key, two),
-        PreparedPair::Refused(r) => Ordered::Refused(r),
+    let checked = prepare::check_call(collation, first.len(), second.len(), entries, pool);
+    match checked {
+        CallCheck::Passed(_) => order_accepted(
+            collation,
+            first,
+            second,
+            entries,
+            pool,
+            first_key,
+            second_key,
+        ),
+        CallCheck::Refused(r) => Ordered::Refused(r),
     }
 }
 
@@ -114,8 +117,8 @@ pub fn order_accepted(
     first_key: &mut [u8],
     second_key: &mut [u8],
 ) -> Ordered
-    requires { ⌜ tableUnder collation (now entries) (now pool) ≡ none ⌝ }
-    ensures { λ r. ⌜ Orders collation (now (first .entry)) (now (second .entry)) (now (entries .entry)) (now (pool .entry)) (now («first_key» .entry)) (now («second_key» .entry)) r (now («first_key» .exit)) (now («second_key» .exit)) ⌝ }
+    requires { ⌜ tableCheck (collationOf collation) (table (now entries) (now pool)) ≡ none ⌝ }
+    ensures { λ r. ⌜ Called orderOutcome orderValues (twoCall (collationOf collation) (now (first .entry)) (now (second .entry)) (now (entries .entry)) (now (pool .entry)) (now («first_key» .entry)) (now («second_key» .entry))) r (now («first_key» .exit) ∷ now («second_key» .exit) ∷ []) ⌝ }
 {
     let pair = prepare::prepare_two_accepted(
         collation,
@@ -153,34 +156,14 @@ fn order_shown<'a, 'b>(
     second_key: &'b [u8],
     two: Summary,
 ) -> Ordered
-    ensures { λ r. ⌜ orderOutcome r ≡ gives (orderNumber (orderOf (shownAt (one .place) (one .«key_length») (now (first .entry)) (now («first_key» .entry))) (shownAt (two .place) (two .«key_length») (now (second .entry)) (now («second_key» .entry)))) ∷ []) ⌝ }
+    ensures { λ r. ⌜ r ≡ orderedBy (orderOf (shownAt (one .place) (one .«key_length») (now (first .entry)) (now («first_key» .entry))) (shownAt (two .place) (two .«key_length») (now (second .entry)) (now («second_key» .entry)))) ⌝ }
 {
-    let a = prepare::shown_part(first, first_key, one);
-    let b = prepare::shown_part(second, second_key, two);
-    order_octets(a, b)
-}
-
-// The order of two keys: octet by octet, unsigned; a proper prefix is less.
-pub fn order_octets(a: &[u8], b: &[u8]) -> Ordered
-    ensures { λ r. ⌜ orderOutcome r ≡ gives (orderNumber (orderOf (now (a .entry)) (now (b .entry))) ∷ []) ⌝ }
-{
-    let mut i = 0;
-    while i < a.len() {
-        if b.len() <= i {
-            return Ordered::Greater;
-        }
-        let x = a[i];
-        let y = b[i];
-        if x < y {
-            return Ordered::Less;
-        }
-        if y < x {
-            return Ordered::Greater;
-        }
-        i += 1;
+    let a = keys::shown_part(first, first_key, one);
+    let b = keys::shown_part(second, second_key, two);
+    let comparison = octets::compare_octets(a, b);
+    match comparison {
+        Comparison::Less => Ordered::Less,
+        Comparison::Equal => Ordered::Equal,
+        Comparison::Greater => Ordered::Greater,
     }
-    if i < b.len() {
-        return Ordered::Less;
-    }
-    Ordered::Equal
 }

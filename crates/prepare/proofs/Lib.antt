@@ -1,8 +1,5 @@
-pub mod Answers
-pub mod Collations
-pub mod Joining
-pub mod Raising
-pub mod Ready
+pub mod Answering
+pub mod CallRefusals
+pub mod Injective
+pub mod Rooms
 pub mod Shown
-pub mod Walks
-pub mod Validity

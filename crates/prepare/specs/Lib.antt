@@ -1,3 +1,3 @@
-pub mod Keys
 pub mod Calls
+pub mod Preparing
 pub mod Promises

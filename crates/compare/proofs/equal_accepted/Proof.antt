@@ -19,13 +19,7 @@ same-length-2 c = search needs
 
 -- equality by the order
 returns : tie.Need-returns
-returns c =
-    let call = c .before .before .before .before .before in
-    let args = call .before .before .before .before .before .before .before .before .before .args in
-    let by-order =
-    equals-by (args .collation) (args .first .now) (args .second .now) (args .entries .now) (args .pool .now)
-    (args .first-key .now) (args .second-key .now) _ _ (call .order-accepted .result) (call .order-accepted .ensures) in
-    rw (c .equality-of .ensures) by-order
+returns c = rw (c .equality-of .ensures) (equals-by (c .before .before .before .before .before .order-accepted .ensures))
 
 pub equal-accepted-spec : {M : Type 1} → statement M
 equal-accepted-spec =

@@ -2,7 +2,7 @@
 -- Assumes nothing.
 use mathlib.Core.Path.{sym, ap}
 use borrow.Author.Needs.{needs}
-use Rattle.compare.specs.Promises.{equalityBy}
+use Rattle.compare.specs.Compare.{equalityBy}
 use Rattle.compare.proofs.equality_of.Statement.{statement}
 use Rattle.compare.proofs.equality_of.Tie as tie
 

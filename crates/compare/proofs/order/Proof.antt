@@ -1,28 +1,24 @@
--- `compare::order` meets its contract: `prepare_two` prepares both texts, and `order_shown` orders what they show.
+-- `compare::order` meets its contract: `check_call` answers 1 to 7, and `order_accepted` the call that passed it.
 -- Assumes nothing.
+use mathlib.Core.Path.{refl}
 use borrow.Author.Needs.{needs}
-use Rattle.compare.proofs.Calls.{orders-shown, orders-refused}
+use Rattle.prepare.proofs.CallRefusals.{checks-passed, checks-refused, called-refused}
 use Rattle.compare.proofs.order.Statement.{statement}
 use Rattle.compare.proofs.order.Tie as tie
 
--- the call of `prepare_two`, seen from past it, and the function's entry from there
-abbrev called : tie.After-slice-known4 → tie.After-prepare-two
-called c = c .before .before .before .before
+check-call-requires : tie.Need-check-call-requires
+check-call-requires c κs = search needs
 
-abbrev start : tie.After-prepare-two → tie.Start
-start c = c .before .before .before .before .before .before .before .before .before
+enum-told : tie.Need-enum-told
+enum-told c = search needs
 
-prepare-two-requires : tie.Need-prepare-two-requires
-prepare-two-requires c κs = search needs
+-- the table was accepted
+order-accepted-requires : tie.Need-order-accepted-requires
+order-accepted-requires c κs =
+    let told = c .before .before in checks-passed (told .before .before .check-call .ensures) (told .enum-told .given .1) .table
 
-enum-known-pair : tie.Need-enum-known-pair
-enum-known-pair c = search needs
-
-order-shown-requires : tie.Need-order-shown-requires
-order-shown-requires c κs = search needs
-
-enum-known-pair-2 : tie.Need-enum-known-pair-2
-enum-known-pair-2 c = search needs
+enum-known-checked : tie.Need-enum-known-checked
+enum-known-checked c = search needs
 
 same-length : tie.Need-same-length
 same-length c = search needs
@@ -30,44 +26,24 @@ same-length c = search needs
 same-length-2 : tie.Need-same-length-2
 same-length-2 c = search needs
 
--- what they show is ordered
 returns : tie.Need-returns
-returns c =
-    let known = c .before .before .before .before in
-    let call = called (known .before .before) in
-    let args = start call .args in
-    orders-shown (args .collation) (args .first .now) (args .second .now) (args .entries .now) (args .pool .now)
-    (args .first-key .now) (args .second-key .now) _ _ (call .prepare-two .result) (call .prepare-two .ensures)
-    (known .pair .given .0 .0) (known .pair .given .0 .1 .0) (c .order-shown .result) (known .pair .given .1)
-    (c .order-shown .ensures)
+returns c = search needs
 
-same-length-3 : tie.Need-same-length-3
-same-length-3 c = search needs
-
-same-length-4 : tie.Need-same-length-4
-same-length-4 c = search needs
-
--- refused
+-- one of 1 to 7 refuses
 returns-2 : tie.Need-returns-2
 returns-2 c =
     let known = c .before in
-    let call = called (known .before .before) in
-    let args = start call .args in
-    orders-refused (args .collation) (args .first .now) (args .second .now) (args .entries .now) (args .pool .now)
-    (args .first-key .now) (args .second-key .now) _ _ (call .prepare-two .result) (call .prepare-two .ensures) _
-    (known .pair2 .given .1)
+    called-refused (checks-refused (known .before .before .check-call .ensures) (known .checked .given .1)) refl
 
 pub order-spec : {M : Type 1} → statement M
 order-spec =
     tie.close
     (tie.spec
-    prepare-two-requires
-    enum-known-pair
-    order-shown-requires
-    enum-known-pair-2
+    check-call-requires
+    enum-told
+    order-accepted-requires
+    enum-known-checked
     same-length
     same-length-2
     returns
-    same-length-3
-    same-length-4
     returns-2)

@@ -1,16 +1,12 @@
 -- `compare::order_accepted` meets its contract: `prepare_two_accepted` prepares both texts, and `order_shown` orders what they show.
 -- Assumes nothing.
+use mathlib.Core.Path.{refl, ap}
 use borrow.Author.Needs.{needs}
-use Rattle.compare.proofs.Calls.{orders-shown, orders-refused}
+use Rattle.prepare.specs.Preparing.{pairOutcome}
+use Rattle.prepare.proofs.Answering.{answers-on}
+use Rattle.compare.proofs.Calls.{orders-shown}
 use Rattle.compare.proofs.order_accepted.Statement.{statement}
 use Rattle.compare.proofs.order_accepted.Tie as tie
-
--- the call of `prepare_two_accepted`, seen from past it, and the function's entry from there
-abbrev called : tie.After-slice-known4 → tie.After-prepare-two-accepted
-called c = c .before .before .before .before
-
-abbrev start : tie.After-prepare-two-accepted → tie.Start
-start c = c .before .before .before .before .before .before .before .before .before
 
 prepare-two-accepted-requires : tie.Need-prepare-two-accepted-requires
 prepare-two-accepted-requires c κs = search needs
@@ -34,12 +30,7 @@ same-length-2 c = search needs
 returns : tie.Need-returns
 returns c =
     let known = c .before .before .before .before in
-    let call = called (known .before .before) in
-    let args = start call .args in
-    orders-shown (args .collation) (args .first .now) (args .second .now) (args .entries .now) (args .pool .now)
-    (args .first-key .now) (args .second-key .now) _ _ (call .prepare-two-accepted .result) (call .prepare-two-accepted .ensures)
-    (known .pair .given .0 .0) (known .pair .given .0 .1 .0) (c .order-shown .result) (known .pair .given .1)
-    (c .order-shown .ensures)
+    orders-shown (known .before .before .before .before .before .before .prepare-two-accepted .ensures) (known .pair .given .1) (c .order-shown .ensures)
 
 same-length-3 : tie.Need-same-length-3
 same-length-3 c = search needs
@@ -51,11 +42,7 @@ same-length-4 c = search needs
 returns-2 : tie.Need-returns-2
 returns-2 c =
     let known = c .before in
-    let call = called (known .before .before) in
-    let args = start call .args in
-    orders-refused (args .collation) (args .first .now) (args .second .now) (args .entries .now) (args .pool .now)
-    (args .first-key .now) (args .second-key .now) _ _ (call .prepare-two-accepted .result) (call .prepare-two-accepted .ensures) _
-    (known .pair2 .given .1)
+    answers-on (known .before .before .before .before .before .before .prepare-two-accepted .ensures) (ap pairOutcome (known .pair2 .given .1)) refl
 
 pub order-accepted-spec : {M : Type 1} → statement M
 order-accepted-spec =

@@ -1,22 +1,9 @@
--- `prepare::prepare` meets its contract: `check_call` answers the front of the call, and `prepare_ready` what is left of it.
+-- `prepare::prepare` meets its contract: `check_call` answers the front of the call, and `prepare_accepted` the call that passed it.
 -- Assumes nothing.
-use mathlib.Core.Path.{_≡_, sym, ap, _∙_}
-use mathlib.Core.Option.{none}
-use lib.ListN.{length}
 use borrow.Author.Needs.{needs}
-use Rattle.prepare.specs.Promises.{readinessTold}
-use Rattle.prepare.proofs.Joining.{front, front-passed, prepares-ready, prepares-refused}
+use Rattle.prepare.proofs.CallRefusals.{checks-passed, checks-refused, prepares-refused}
 use Rattle.prepare.proofs.prepare.Statement.{statement}
 use Rattle.prepare.proofs.prepare.Tie as tie
-
--- the function's entry, seen from past the checks
-abbrev start : tie.After-check-call → tie.Start
-start c = c .before .before .before .before .before
-
--- the front was passed
-ready : (c : tie.After-enum-told) → let args = start (c .before .before) .args in
-    front (args .collation) (length (args .text .now)) 0 (args .entries .now) (args .pool .now) ≡ none
-ready c = sym (c .before .before .check-call .ensures) ∙ ap readinessTold (c .enum-told .given .1)
 
 check-call-requires : tie.Need-check-call-requires
 check-call-requires c κs = search needs
@@ -24,37 +11,25 @@ check-call-requires c κs = search needs
 enum-told : tie.Need-enum-told
 enum-told c = search needs
 
--- the front was passed
-prepare-ready-requires : tie.Need-prepare-ready-requires
-prepare-ready-requires c κs =
-    let args = start (c .before .before .before) .args in
-    let passed =
-    front-passed (args .collation) (length (args .text .now)) 0 (args .entries .now) (args .pool .now) (ready (c .before)) in
-    (passed .first, passed .table)
+-- the table was accepted
+prepare-accepted-requires : tie.Need-prepare-accepted-requires
+prepare-accepted-requires c κs =
+    let told = c .before in checks-passed (told .before .before .check-call .ensures) (told .enum-told .given .1) .table
 
-enum-known-table : tie.Need-enum-known-table
-enum-known-table c = search needs
+enum-known-checked : tie.Need-enum-known-checked
+enum-known-checked c = search needs
 
 same-length : tie.Need-same-length
 same-length c = search needs
 
--- what is left of the call decides
 returns : tie.Need-returns
-returns c =
-    let called = c .before .before in
-    let told = called .before .before in
-    let args = start (told .before .before) .args in
-    prepares-ready (args .collation) (args .entries .now) (args .pool .now) (args .text .now) (args .key .now)
-    (called .prepare-ready .result) _ (ready told) (called .prepare-ready .ensures)
+returns c = search needs
 
 -- refused by the front
 returns-2 : tie.Need-returns-2
 returns-2 c =
     let known = c .before in
-    let checked = known .before .before in
-    let args = start checked .args in
-    prepares-refused (args .collation) (args .entries .now) (args .pool .now) (args .text .now) (args .key .now) _
-    (sym (checked .check-call .ensures) ∙ ap readinessTold (known .table .given .1))
+    prepares-refused (checks-refused (known .before .before .check-call .ensures) (known .checked .given .1))
 
 pub prepare-spec : {M : Type 1} → statement M
 prepare-spec =
@@ -62,8 +37,8 @@ prepare-spec =
     (tie.spec
     check-call-requires
     enum-told
-    prepare-ready-requires
-    enum-known-table
+    prepare-accepted-requires
+    enum-known-checked
     same-length
     returns
     returns-2)

@@ -2,7 +2,7 @@
 -- Assumes nothing.
 use mathlib.Core.Path.{sym, ap, _∙_}
 use borrow.Author.Needs.{needs}
-use Rattle.prepare.specs.Calls.{shownKey}
+use Rattle.prepare.specs.Preparing.{shownKey}
 use Rattle.prepare.specs.declared.Preparation.{Preparation}
 use Rattle.prepare.proofs.shown_key.Statement.{statement}
 use Rattle.prepare.proofs.shown_key.Tie as tie

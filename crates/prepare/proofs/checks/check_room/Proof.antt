@@ -1,14 +1,14 @@
 -- `prepare::checks::check_room` meets its contract: the place says what is needed, and the test whether it is there.
 -- Assumes nothing.
-use mathlib.Core.Path.{_≡_, ap, _∙_}
+use mathlib.Core.Path.{_≡_}
 use Prim.Native.Nat.{ℕ, zero-le, _<_, _≤_}
 use mathlib.Core.Option.{none, some}
 use borrow.Author.Needs.{needs}
 use borrow.Author.Tests.{lt-ltb, le-ltb}
 use Rattle.terms.specs.Refusals.{refusal}
-use Rattle.prepare.specs.Promises.{readinessTold, roomNeeded}
-use Rattle.prepare.specs.declared.Summary.{Summary}
-use Rattle.prepare.specs.declared.KeyPlace.the-variants.{Text, Buffer}
+use Rattle.prepare.specs.Promises.{roomNeeded}
+use Rattle.keys.specs.declared.Summary.{Summary}
+use Rattle.keys.specs.declared.KeyPlace.the-variants.{Text, Buffer}
 use Rattle.prepare.proofs.checks.check_room.Statement.{statement}
 use Rattle.prepare.proofs.checks.check_room.Tie as tie
 
@@ -32,16 +32,12 @@ enum-told c = search needs
 enum-told-2 : tie.Need-enum-told-2
 enum-told-2 c = search needs
 
-refused-requires : tie.Need-refused-requires
-refused-requires c κs = search needs
-
 -- too little room
 returns : tie.Need-returns
 returns c =
-    let at-if = c .before in
+    let at-if = c in
     let args = at-if .before .before .before .args in
-    ap readinessTold (c .refused .ensures)
-    ∙ room-short (args .place) (args .room) (args .summary) (at-if .before .enum-told2 .given .1) (at-if .if1 .taken)
+    room-short (args .place) (args .room) (args .summary) (at-if .before .enum-told2 .given .1) (at-if .if1 .taken)
 
 -- the text itself
 returns-2 : tie.Need-returns-2
@@ -57,4 +53,4 @@ returns-3 c =
 
 pub check-room-spec : {M : Type 1} → statement M
 check-room-spec =
-    tie.close (tie.spec enum-told enum-told-2 refused-requires returns returns-2 returns-3)
+    tie.close (tie.spec enum-told enum-told-2 returns returns-2 returns-3)

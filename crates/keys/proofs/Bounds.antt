@@ -1,0 +1,50 @@
+-- The bounds of demand 3 for a prepared text: its lookup count, the length of its key, and a buffer that has room for any key.
+-- Assumes nothing.
+use mathlib.Core.Path.{_≡_, refl, sym}
+use Prim.Native.Nat.{ℕ, zero-le, _*_, _/_, _≤_}
+use native.Mathlib.Omega.{arith}
+use mathlib.Core.Bool.{true, true≢false}
+use mathlib.Core.Option.{Option, none, some}
+use mathlib.Core.List.{List}
+use lib.ListN.{length}
+use borrow.Author.Tests.{leb-true}
+use Rattle.terms.specs.Refusals.{expansionMost}
+use Rattle.terms.specs.declared.Collation.{Collation}
+use Rattle.terms.specs.declared.Collation.the-variants.{Octet, AsciiCasemap, UnicodeCasemap}
+use Rattle.utf8.specs.Utf8.{Character, characters}
+use Rattle.utf8.proofs.Characters.{characters-count}
+use Rattle.decompose.proofs.Demand3.{accepted-lookups, accepted-key}
+use Rattle.keys.specs.Tables.{Table, mappingT, refusalT}
+use Rattle.keys.specs.Keys.{prepared, unicodePrepared, tableUnder, roomFor}
+use Rattle.keys.specs.Summaries.{characterCount, roomy}
+
+-- none are counted but under collation 3, and there the table was accepted
+pub prepared-count : (k : Collation) (t : Table) (text : List ℕ) → tableUnder k t ≡ none
+    → prepared k (mappingT t) text .count ≤ 258 * characterCount (characters text)
+prepared-count Octet t text e = zero-le
+prepared-count AsciiCasemap t text e = zero-le
+prepared-count UnicodeCasemap t text e = unicode (characters text)
+  where
+    unicode : (o : Option (List Character)) → unicodePrepared (mappingT t) text o .count ≤ 258 * characterCount o
+    unicode none = zero-le
+    unicode (some chs) = accepted-lookups (t .entries) (t .pool) e chs
+
+-- the key of a text over an accepted table has at most 128 octets for each of the text's
+pub key-most : (t : Table) (text : List ℕ) → refusalT t ≡ none
+    → roomFor (unicodePrepared (mappingT t) text (characters text)) ≤ expansionMost * length text
+key-most t text accepted = go (characters text) refl
+  where
+    go : (o : Option (List Character)) → characters text ≡ o
+        → roomFor (unicodePrepared (mappingT t) text o) ≤ expansionMost * length text
+    go none e = zero-le
+    go (some chs) e = omega (arith, accepted-key (t .entries) (t .pool) accepted chs, characters-count text chs e)
+
+-- a buffer that is roomy for a text has room for its key
+pub record Roomy (k : Collation) (n room : ℕ) : Type 0 where
+  pub unicode : k ≡ UnicodeCasemap
+  pub enough : expansionMost * n ≤ room
+
+pub roomy-enough : (k : Collation) (n room : ℕ) → roomy k n room ≡ true → Roomy k n room
+roomy-enough Octet n room e = absurd (true≢false (sym e))
+roomy-enough AsciiCasemap n room e = absurd (true≢false (sym e))
+roomy-enough UnicodeCasemap n room e = record { unicode = refl; enough = omega (arith, leb-true n (room / expansionMost) e) }

@@ -1,0 +1,135 @@
+-- `keys::unicode::size_unicode` meets its contract. The loop's invariant: the characters up to `at` came to `octets` octets and
+-- `lookups` lookups, and the text's numbers go by these and by what follows (`Sizing`), which is valid. The measure is what is left
+-- of the text.
+-- Assumes nothing.
+use mathlib.Core.Path.{_≡_, sym}
+use mathlib.Core.Bool.{true}
+use mathlib.Core.List.{List}
+use mathlib.Core.Option.{some}
+use Prim.Native.Nat.{ℕ, _+_, _-_, _*_, _≤_}
+use native.Mathlib.Omega.{arith}
+use lib.ListN.{length, drop}
+use Rattle.terms.specs.Lists.{there}
+use Rattle.terms.specs.Refusals.{textMost}
+use Rattle.table.specs.Mapping.{Mapping}
+use Rattle.table.specs.Table.{mappingOf}
+use Rattle.utf8.specs.Utf8.{Character, character, decode, characters}
+use Rattle.decompose.proofs.Demand3.{accepted-all}
+use Rattle.keys.proofs.Walks.{decode-drop-fits, there-drop, there-next, Sizing, sizing-start, sizing-more, sizing-done}
+use Rattle.keys.proofs.unicode.size_unicode.Statement.{statement}
+use Rattle.keys.proofs.unicode.size_unicode.Tie as tie
+
+abbrev Inv-loop : tie.InvT-loop
+Inv-loop text entries pool at₀ octets₀ lookups₀ at octets lookups =
+    Sizing (mappingOf entries pool) text at octets lookups × (there (characters (drop at text)) ≡ true)
+
+abbrev μ-loop : tie.MeasureT-loop
+μ-loop text entries pool at₀ octets₀ lookups₀ at octets lookups = length text - at
+
+-- at the loop's head: the function's entry, the mapping of the table, and the text
+abbrev start : tie.At-loop Inv-loop μ-loop → tie.Start Inv-loop μ-loop
+start l = l .before .before .before .before
+
+abbrev mapping : tie.At-loop Inv-loop μ-loop → Mapping
+mapping l = mappingOf (start l .args .entries .now) (start l .args .pool .now)
+
+abbrev text-of : tie.At-loop Inv-loop μ-loop → List ℕ
+text-of l = start l .args .text .now
+
+-- where a character was read: the loop's head, and the character
+abbrev head : tie.After-read-valid Inv-loop μ-loop → tie.At-loop Inv-loop μ-loop
+head c = c .before .before
+
+abbrev read : tie.After-read-valid Inv-loop μ-loop → Character
+read c = character (c .read-valid .result .code .0) (c .read-valid .result .width)
+
+decoded : (c : tie.After-read-valid Inv-loop μ-loop) → decode (drop (head c .loop .at) (text-of (head c))) ≡ some (read c)
+decoded c = sym (c .read-valid .ensures)
+
+-- where it was sized: one character more is sized
+more : (c : tie.After-size-expansion Inv-loop μ-loop)
+    → let r = c .before in
+    let l = head r in
+    Sizing (mapping l) (text-of l)
+    (l .loop .at + read r .width)
+    (l .loop .octets + c .size-expansion .result .octets)
+    (l .loop .lookups + c .size-expansion .result .asks)
+more c =
+    let r = c .before in
+    let l = head r in
+    let accepted = accepted-all (start l .args .entries .now) (start l .args .pool .now) (start l .pre .1 .0) in
+    sizing-more (mapping l) (text-of l) (l .loop .at) (l .loop .octets) (l .loop .lookups) (l .loop .inv .0) accepted (read r)
+    (c .size-expansion .result) (decoded r) (c .size-expansion .ensures)
+
+-- so they are few
+few : (c : tie.After-size-expansion Inv-loop μ-loop)
+    → let r = c .before in
+    let l = head r in
+    (l .loop .at + read r .width ≤ textMost)
+    × (l .loop .octets + c .size-expansion .result .octets ≤ 128 * textMost)
+    × (l .loop .lookups + c .size-expansion .result .asks ≤ 258 * textMost)
+few c =
+    let m = more c in
+    omega (arith, m .passed, m .octets, m .asked, start (head (c .before)) .pre .0)
+
+-- before the first character
+loop-holds : tie.Need-loop-holds Inv-loop μ-loop
+loop-holds c = (sizing-start _ _, c .before .before .before .pre .1 .1)
+
+-- a character follows
+read-valid-requires : tie.Need-read-valid-requires Inv-loop μ-loop
+read-valid-requires c κs =
+    let l = c .before in
+    there-next (text-of l) (l .loop .at) (l .loop .inv .1) (c .loop-test .taken)
+
+-- the table is accepted
+size-expansion-requires : tie.Need-size-expansion-requires Inv-loop μ-loop
+size-expansion-requires c κs = start (head c) .pre .1 .0
+
+-- few octets of text, of key, and few lookups
+add-at : tie.Need-add-at Inv-loop μ-loop
+add-at c = omega (arith, few (c .before))
+
+add-octets : tie.Need-add-octets Inv-loop μ-loop
+add-octets c = omega (arith, few (c .before .before))
+
+add-lookups : tie.Need-add-lookups Inv-loop μ-loop
+add-lookups c = omega (arith, few (c .before .before .before))
+
+-- an octet or more fewer
+loop-less : tie.Need-loop-less Inv-loop μ-loop
+loop-less c =
+    let r = c .before .before .before .before in
+    let l = head r in
+    omega (arith, decode-drop-fits (text-of l) (l .loop .at) (read r) (l .loop .inv .0 .passed) (decoded r))
+
+-- one character more
+loop-again : tie.Need-loop-again Inv-loop μ-loop
+loop-again c =
+    let sized = c .before .before .before in
+    let r = sized .before in
+    let l = head r in
+    (more sized, there-drop (text-of l) (l .loop .at) (read r) (l .loop .inv .1) (decoded r))
+
+-- the end of the text
+returns : tie.Need-returns Inv-loop μ-loop
+returns c =
+    let l = c .before in
+    sym
+    (sizing-done (mapping l) (text-of l) (l .loop .at) (l .loop .octets) (l .loop .lookups) (l .loop .inv .0) (c .loop-test .left))
+
+pub size-unicode-spec : {M : Type 1} → statement M
+size-unicode-spec =
+    tie.close
+    (tie.spec
+    Inv-loop
+    μ-loop
+    loop-holds
+    read-valid-requires
+    size-expansion-requires
+    add-at
+    add-octets
+    add-lookups
+    loop-less
+    loop-again
+    returns)

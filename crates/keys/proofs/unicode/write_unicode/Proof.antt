@@ -1,0 +1,217 @@
+-- `keys::unicode::write_unicode` meets its contract. The loop's invariant: the characters up to `at` came to `end` octets and `lookups`
+-- lookups (`Sizing`), and were written into the first `end` octets of the buffer (`Writing`); the key and the numbers are these and
+-- those of what follows. The measure is what is left of the text.
+-- Assumes nothing.
+use mathlib.Core.Path.{_≡_, sym}
+use mathlib.Core.List.{List, _++_}
+use mathlib.Core.Option.{some}
+use Prim.Native.Nat.{ℕ, _+_, _-_, _≤_}
+use native.Mathlib.Nat.{le-refl}
+use native.Mathlib.Omega.{arith}
+use lib.ListN.{length, take, drop}
+use Rattle.terms.proofs.Parts.{take-drop, put-back}
+use Rattle.table.specs.Mapping.{Mapping}
+use Rattle.table.specs.Table.{mappingOf}
+use Rattle.utf8.specs.Utf8.{Character, character, decode}
+use Rattle.utf8.proofs.Decode.{decode-sound}
+use Rattle.decompose.proofs.Demand3.{accepted-all}
+use Rattle.keys.proofs.Walks.{decode-drop-fits, there-next, Sizing, sizing-start, sizing-more, sizing-done, Writing, writing-start, writing-more, writing-done, writing-length, writing-end, writing-room}
+use Rattle.keys.proofs.unicode.write_unicode.Statement.{statement}
+use Rattle.keys.proofs.unicode.write_unicode.Tie as tie
+
+abbrev Inv-loop : tie.InvT-loop
+Inv-loop text entries pool key₀ at₀ end₀ lookups₀ key at end lookups =
+    Sizing (mappingOf entries pool) text at end lookups × Writing (mappingOf entries pool) text key₀ at end key
+
+abbrev μ-loop : tie.MeasureT-loop
+μ-loop text entries pool key₀ at₀ end₀ lookups₀ key at end lookups = length text - at
+
+-- at the loop's head: the function's entry, the mapping of the table, and the text
+abbrev start : tie.At-loop Inv-loop μ-loop → tie.Start Inv-loop μ-loop
+start l = l .before .before .before .before .before
+
+abbrev mapping : tie.At-loop Inv-loop μ-loop → Mapping
+mapping l = mappingOf (start l .args .entries .now) (start l .args .pool .now)
+
+abbrev text-of : tie.At-loop Inv-loop μ-loop → List ℕ
+text-of l = start l .args .text .now
+
+-- the buffer is as long as at the start, and the octets so far are within it
+same : (l : tie.At-loop Inv-loop μ-loop) → length (l .loop .key) ≡ length (start l .args .key .now)
+same l =
+    let s = start l in
+    writing-length (mapping l) (text-of l) (s .args .key .now) (l .loop .at) (l .loop .end) (l .loop .key) (l .loop .inv .1)
+    (s .pre .1 .1 .0) (s .pre .1 .1 .1)
+
+within : (l : tie.At-loop Inv-loop μ-loop) → l .loop .end ≤ length (l .loop .key)
+within l =
+    let s = start l in
+    writing-end (mapping l) (text-of l) (s .args .key .now) (l .loop .at) (l .loop .end) (l .loop .key) (l .loop .inv .1)
+    (s .pre .1 .1 .0) (s .pre .1 .1 .1)
+
+-- where a character was read: the loop's head, and the character
+abbrev head : tie.After-read-valid Inv-loop μ-loop → tie.At-loop Inv-loop μ-loop
+head c = c .before .before
+
+abbrev read : tie.After-read-valid Inv-loop μ-loop → Character
+read c = character (c .read-valid .result .code .0) (c .read-valid .result .width)
+
+decoded : (c : tie.After-read-valid Inv-loop μ-loop) → decode (drop (head c .loop .at) (text-of (head c))) ≡ some (read c)
+decoded c = sym (c .read-valid .ensures)
+
+-- it takes an octet or more, and no more than are left
+fits : (c : tie.After-read-valid Inv-loop μ-loop)
+    → (1 ≤ read c .width) × (head c .loop .at + read c .width ≤ length (text-of (head c)))
+fits c =
+    let l = head c in
+    decode-drop-fits (text-of l) (l .loop .at) (read c) (l .loop .inv .1 .passed) (decoded c)
+
+-- where it was written: one character more is written
+abbrev read-at : tie.After-write-expansion Inv-loop μ-loop → tie.After-read-valid Inv-loop μ-loop
+read-at c = c .before .before
+
+abbrev last : tie.After-write-expansion Inv-loop μ-loop → List ℕ
+last c = c .write-expansion .last .1 .1 .1 .0
+
+more : (c : tie.After-write-expansion Inv-loop μ-loop)
+    → let l = head (read-at c) in
+    Writing (mapping l) (text-of l) (start l .args .key .now)
+    (l .loop .at + read (read-at c) .width)
+    (l .loop .end + c .write-expansion .result .octets)
+    (take (l .loop .end) (l .loop .key) ++ last c)
+more c =
+    let r = read-at c in
+    let l = head r in
+    writing-more (mapping l) (text-of l) (start l .args .key .now) (l .loop .at) (l .loop .end) (l .loop .key) (l .loop .inv .1)
+    (read r) (c .write-expansion .result) (last c) (decoded r)
+    (rw (take-drop (l .loop .end) (l .loop .key)) at (c .write-expansion .ensures))
+
+-- and is sized
+sized : (c : tie.After-write-expansion Inv-loop μ-loop)
+    → let l = head (read-at c) in
+    Sizing (mapping l) (text-of l)
+    (l .loop .at + read (read-at c) .width)
+    (l .loop .end + c .write-expansion .result .octets)
+    (l .loop .lookups + c .write-expansion .result .asks)
+sized c =
+    let r = read-at c in
+    let l = head r in
+    let accepted = accepted-all (start l .args .entries .now) (start l .args .pool .now) (start l .pre .1 .0) in
+    sizing-more (mapping l) (text-of l) (l .loop .at) (l .loop .end) (l .loop .lookups) (l .loop .inv .0) accepted (read r)
+    (c .write-expansion .result) (decoded r) (c .write-expansion .ensures .counted)
+
+-- still within the buffer
+ends : (c : tie.After-write-expansion Inv-loop μ-loop)
+    → let l = head (read-at c) in
+    l .loop .end + c .write-expansion .result .octets ≤ length (start l .args .key .now)
+ends c =
+    let l = head (read-at c) in
+    let s = start l in
+    let at = l .loop .at + read (read-at c) .width in
+    let end = l .loop .end + c .write-expansion .result .octets in
+    let key = take (l .loop .end) (l .loop .key) ++ last c in
+    omega (
+      arith,
+      writing-end (mapping l) (text-of l) (s .args .key .now) at end key (more c) (s .pre .1 .1 .0) (s .pre .1 .1 .1),
+      writing-length (mapping l) (text-of l) (s .args .key .now) at end key (more c) (s .pre .1 .1 .0) (s .pre .1 .1 .1),
+    )
+
+-- before the first character
+loop-holds : tie.Need-loop-holds Inv-loop μ-loop
+loop-holds c = (sizing-start _ _, writing-start _ _ _ (c .before .before .before .before .pre .1 .1 .0))
+
+-- a character follows
+read-valid-requires : tie.Need-read-valid-requires Inv-loop μ-loop
+read-valid-requires c κs =
+    let l = c .before in
+    there-next (text-of l) (l .loop .at) (l .loop .inv .1 .valid) (c .loop-test .taken)
+
+-- the part that is lent
+sub-write-expansion : tie.Need-sub-write-expansion Inv-loop μ-loop
+sub-write-expansion c = within (head c)
+
+part-write-expansion-start : tie.Need-part-write-expansion-start Inv-loop μ-loop
+part-write-expansion-start c = within (head c)
+
+part-write-expansion-end : tie.Need-part-write-expansion-end Inv-loop μ-loop
+part-write-expansion-end c = le-refl (length (head c .loop .key))
+
+-- the table is accepted, a decoded character is scalar, and there is room in the part that is lent
+write-expansion-requires : tie.Need-write-expansion-requires Inv-loop μ-loop
+write-expansion-requires c κs =
+    let r = c .before in
+    let l = head r in
+    let s = start l in (
+      s .pre .1 .0,
+      (
+        decode-sound (drop (l .loop .at) (text-of l)) (read r) (decoded r) .isScalar,
+        rw (take-drop (l .loop .end) (l .loop .key))
+            (writing-room (mapping l) (text-of l) (s .args .key .now) (l .loop .at) (l .loop .end) (l .loop .key) (l .loop .inv .1)
+            (s .pre .1 .1 .0) (s .pre .1 .1 .1) (read r) (decoded r)),
+      ),
+    )
+
+-- past the character
+add-at : tie.Need-add-at Inv-loop μ-loop
+add-at c =
+    let r = read-at (c .before .before .before) in
+    omega (arith, fits r, start (head r) .good .0)
+
+-- still within the buffer
+add-end : tie.Need-add-end Inv-loop μ-loop
+add-end c =
+    let w = c .before .before .before .before in
+    omega (arith, ends w, start (head (read-at w)) .good .1 .1 .1 .0)
+
+-- few lookups
+add-lookups : tie.Need-add-lookups Inv-loop μ-loop
+add-lookups c =
+    let w = c .before .before .before .before .before in
+    omega (arith, sized w .asked, sized w .passed, start (head (read-at w)) .pre .0)
+
+-- an octet or more fewer
+loop-less : tie.Need-loop-less Inv-loop μ-loop
+loop-less c = omega (arith, fits (read-at (c .before .before .before .before .before)))
+
+-- one character more
+loop-again : tie.Need-loop-again Inv-loop μ-loop
+loop-again c =
+    let w = c .before .before .before .before .before in
+    let l = head (read-at w) in
+    (sized w, rw (put-back (l .loop .end) (l .loop .key) (last w)) (more w))
+
+-- the end of the text
+same-length : tie.Need-same-length Inv-loop μ-loop
+same-length c = same (c .before)
+
+returns : tie.Need-returns Inv-loop μ-loop
+returns c =
+    let l = c .before in
+    let s = start l in
+    record {
+      numbers = sym
+          (sizing-done (mapping l) (text-of l) (l .loop .at) (l .loop .end) (l .loop .lookups) (l .loop .inv .0) (c .loop-test .left));
+      left =
+          writing-done (mapping l) (text-of l) (s .args .key .now) (l .loop .at) (l .loop .end) (l .loop .key) (l .loop .inv .1)
+          (s .pre .1 .1 .0) (c .loop-test .left);
+    }
+
+pub write-unicode-spec : {M : Type 1} → statement M
+write-unicode-spec =
+    tie.close
+    (tie.spec
+    Inv-loop
+    μ-loop
+    loop-holds
+    read-valid-requires
+    sub-write-expansion
+    part-write-expansion-start
+    part-write-expansion-end
+    write-expansion-requires
+    add-at
+    add-end
+    add-lookups
+    loop-less
+    loop-again
+    same-length
+    returns)

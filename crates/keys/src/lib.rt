@@ -1,0 +1,135 @@
+// Keys of the collations (document 01, "The collations", "Preparation"): the size and the octets of one text's key.
+//
+// The functions work on an accepted table, a text within the limit and enough room, and say so; `shown_part` takes anything.
+mod ascii;
+mod unicode;
+
+use terms::Collation;
+ghost use mathlib.Core.Path.{_≡_};
+ghost use mathlib.Core.Option.{none};
+ghost use Prim.Native.Nat.{_*_, _≤_};
+ghost use lib.ListN.{length};
+ghost use Rattle.terms.specs.Refusals.{textMost, expansionMost};
+ghost use Rattle.utf8.specs.Utf8.{characters};
+ghost use Rattle.keys.specs.Tables.{table, mappingT, refusalT};
+ghost use Rattle.keys.specs.Keys.{unicodePrepared, prepared, tableUnder, roomFor, keyed};
+ghost use Rattle.keys.specs.Summaries.{summaryNumbers, preparedNumbers, shownAt, roomy, KeyFilled};
+
+// Where a key stands: it is the text itself, or stands at the start of the key buffer.
+pub enum KeyPlace {
+    Text,
+    Buffer,
+}
+
+// What preparing a text came to.
+pub struct Summary {
+    // Whether the text is valid (always so under collations 1 and 2).
+    pub valid: bool,
+    // The lookup count.
+    pub lookups: u64,
+    // The length of the key, in octets, and where it stands.
+    pub key_length: usize,
+    pub place: KeyPlace,
+}
+
+// What preparing a text comes to, with nothing written.
+pub fn size_key(collation: Collation, text: &[u8], entries: &[u32], pool: &[u32]) -> Summary
+    requires { ⌜ length (now text) ≤ textMost ⌝ }
+    requires { ⌜ tableUnder collation (table (now entries) (now pool)) ≡ none ⌝ }
+    ensures { λ r. ⌜ summaryNumbers r ≡ preparedNumbers (prepared collation (mappingT (table (now (entries .entry)) (now (pool .entry)))) (now (text .entry))) ⌝ }
+{
+    match collation {
+        Collation::Octet => Summary {
+            valid: true,
+            lookups: 0,
+            key_length: text.len(),
+            place: KeyPlace::Text,
+        },
+        Collation::AsciiCasemap => Summary {
+            valid: true,
+            lookups: 0,
+            key_length: text.len(),
+            place: KeyPlace::Buffer,
+        },
+        Collation::UnicodeCasemap => {
+            // An invalid text is its own key.
+            if utf8::is_valid(text) {
+                return unicode::size_unicode(text, entries, pool);
+            }
+            unicode::kept(text.len())
+        }
+    }
+}
+
+// Writes the key of a text that was sized, if it belongs in the key buffer.
+pub fn write_key(
+    collation: Collation,
+    text: &[u8],
+    entries: &[u32],
+    pool: &[u32],
+    summary: Summary,
+    key: &mut [u8],
+)
+    requires { ⌜ length (now text) ≤ textMost ⌝ }
+    requires { ⌜ tableUnder collation (table (now entries) (now pool)) ≡ none ⌝ }
+    requires { ⌜ summaryNumbers summary ≡ preparedNumbers (prepared collation (mappingT (table (now entries) (now pool))) (now text)) ⌝ }
+    requires { ⌜ roomFor (prepared collation (mappingT (table (now entries) (now pool))) (now text)) ≤ length (now key) ⌝ }
+    ensures { λ _. ⌜ now (key .exit) ≡ keyed (prepared collation (mappingT (table (now (entries .entry)) (now (pool .entry)))) (now (text .entry))) (now (key .entry)) ⌝ }
+{
+    match collation {
+        Collation::Octet => {}
+        Collation::AsciiCasemap => {
+            ascii::write_ascii(text, key);
+        }
+        Collation::UnicodeCasemap => {
+            if summary.valid {
+                unicode::write_unicode(text, entries, pool, key);
+            }
+        }
+    }
+}
+
+// Whether a key buffer has room for any key of a text of so many octets, so that no key needs to be sized.
+pub fn is_roomy(collation: Collation, text_length: usize, room: usize) -> bool
+    ensures { λ r. ⌜ r ≡ roomy collation «text_length» room ⌝ }
+{
+    if terms::reads_table(collation) {
+        return text_length <= room / terms::EXPANSION_MOST;
+    }
+    false
+}
+
+// Prepares a text under collation 3 in one walk that writes, without sizing its key first: the buffer has room for any.
+pub fn fill_unicode(text: &[u8], entries: &[u32], pool: &[u32], key: &mut [u8]) -> Summary
+    requires { ⌜ length (now text) ≤ textMost ⌝ }
+    requires { ⌜ refusalT (table (now entries) (now pool)) ≡ none ⌝ }
+    requires { ⌜ expansionMost * length (now text) ≤ length (now key) ⌝ }
+    ensures { λ r. ⌜ KeyFilled (unicodePrepared (mappingT (table (now (entries .entry)) (now (pool .entry)))) (now (text .entry)) (characters (now (text .entry)))) (now (key .entry)) r (now (key .exit)) ⌝ }
+{
+    // An invalid text leaves the buffer, so the text is read to its end before the first octet is written.
+    if utf8::is_valid(text) {
+        return unicode::write_unicode(text, entries, pool, key);
+    }
+    unicode::kept(text.len())
+}
+
+// The key that a prepared text's summary shows.
+pub fn shown_part<'a>(text: &'a [u8], key: &'a [u8], summary: Summary) -> &'a [u8]
+    ensures { λ r. ⌜ now r ≡ shownAt (summary .place) (summary .«key_length») (now (text .entry)) (now (key .entry)) ⌝ }
+{
+    let n = summary.key_length;
+    let place = summary.place;
+    match place {
+        KeyPlace::Text => {
+            if n <= text.len() {
+                return &text[..n];
+            }
+        }
+        KeyPlace::Buffer => {
+            if n <= key.len() {
+                return &key[..n];
+            }
+        }
+    }
+    &text[..0]
+}

@@ -1,0 +1,79 @@
+// The key of a text under collation 3: the published steps, character by character.
+use super::KeyPlace;
+use super::Summary;
+use terms::TextPosition;
+ghost use mathlib.Core.Path.{_≡_};
+ghost use mathlib.Core.Bool.{true};
+ghost use mathlib.Core.List.{[], _∷_};
+ghost use mathlib.Core.Option.{none};
+ghost use Prim.Native.Nat.{_≤_};
+ghost use lib.ListN.{length};
+ghost use Rattle.terms.specs.Lists.{there};
+ghost use Rattle.terms.specs.Refusals.{textMost};
+ghost use Rattle.utf8.specs.Utf8.{characters};
+ghost use Rattle.keys.specs.Tables.{table, mappingT, refusalT};
+ghost use Rattle.keys.specs.Keys.{unicodePrepared, roomFor};
+ghost use Rattle.keys.specs.Summaries.{summaryNumbers, preparedNumbers, KeyFilled};
+
+// What preparing a valid text under collation 3 comes to.
+pub fn size_unicode(text: &[u8], entries: &[u32], pool: &[u32]) -> Summary
+    requires { ⌜ length (now text) ≤ textMost ⌝ }
+    requires { ⌜ refusalT (table (now entries) (now pool)) ≡ none ⌝ }
+    requires { ⌜ there (characters (now text)) ≡ true ⌝ }
+    ensures { λ r. ⌜ summaryNumbers r ≡ preparedNumbers (unicodePrepared (mappingT (table (now (entries .entry)) (now (pool .entry)))) (now (text .entry)) (characters (now (text .entry)))) ⌝ }
+{
+    let mut at = 0;
+    let mut octets = 0;
+    let mut lookups: u64 = 0;
+    while at < text.len() {
+        let character = utf8::read_valid(text, TextPosition(at));
+        let sized = decompose::size_expansion(character.code, entries, pool);
+        at += character.width;
+        octets += sized.octets;
+        lookups += sized.asks;
+    }
+    Summary {
+        valid: true,
+        lookups,
+        key_length: octets,
+        place: KeyPlace::Buffer,
+    }
+}
+
+// Writes the key of a valid text under collation 3.
+pub fn write_unicode(text: &[u8], entries: &[u32], pool: &[u32], key: &mut [u8]) -> Summary
+    requires { ⌜ length (now text) ≤ textMost ⌝ }
+    requires { ⌜ refusalT (table (now entries) (now pool)) ≡ none ⌝ }
+    requires { ⌜ there (characters (now text)) ≡ true ⌝ }
+    requires { ⌜ roomFor (unicodePrepared (mappingT (table (now entries) (now pool))) (now text) (characters (now text))) ≤ length (now key) ⌝ }
+    ensures { λ r. ⌜ KeyFilled (unicodePrepared (mappingT (table (now (entries .entry)) (now (pool .entry)))) (now (text .entry)) (characters (now (text .entry)))) (now (key .entry)) r (now (key .exit)) ⌝ }
+{
+    let mut at = 0;
+    let mut end = 0;
+    let mut lookups: u64 = 0;
+    while at < text.len() {
+        let character = utf8::read_valid(text, TextPosition(at));
+        let written = decompose::write_expansion(character.code, entries, pool, &mut key[end..]);
+        at += character.width;
+        end += written.octets;
+        lookups += written.asks;
+    }
+    Summary {
+        valid: true,
+        lookups,
+        key_length: end,
+        place: KeyPlace::Buffer,
+    }
+}
+
+// What preparing an invalid text of so many octets comes to: it is its own key.
+pub fn kept(text_length: usize) -> Summary
+    ensures { λ r. ⌜ summaryNumbers r ≡ 0 ∷ 0 ∷ «text_length» ∷ 0 ∷ [] ⌝ }
+{
+    Summary {
+        valid: false,
+        lookups: 0,
+        key_length: text_length,
+        place: KeyPlace::Text,
+    }
+}

@@ -1,0 +1,53 @@
+-- `prepare::filling::fill_one` meets its contract: in a roomy buffer 8 does not apply, and the key is filled in; else it is sized first.
+-- Assumes nothing.
+use mathlib.Core.Path.{sym, _∙_}
+use lib.ListN.{length}
+use borrow.Author.Needs.{needs}
+use Rattle.keys.specs.Tables.{table}
+use Rattle.keys.proofs.Collations.{tableUnder-unicode}
+use Rattle.keys.proofs.Bounds.{Roomy, roomy-enough}
+use Rattle.prepare.proofs.Rooms.{filled-written, one-written}
+use Rattle.prepare.proofs.filling.fill_one.Statement.{statement}
+use Rattle.prepare.proofs.filling.fill_one.Tie as tie
+
+-- where the buffer is roomy: the function's entry, and that it is
+abbrev start : tie.Then1 → tie.Start
+start c = c .before .before .before .before .before .before
+
+enough : (c : tie.Then1) → Roomy (start c .args .collation) (length (start c .args .text .now)) (length (start c .args .key .now))
+enough c = roomy-enough _ _ _ (sym (c .before .is-roomy .ensures) ∙ c .if1 .taken)
+
+is-roomy-requires : tie.Need-is-roomy-requires
+is-roomy-requires c κs = search needs
+
+-- the buffer is roomy
+fill-unicode-requires : tie.Need-fill-unicode-requires
+fill-unicode-requires c κs =
+    let r = c .before in
+    let s = start r in
+    (s .pre .0, (tableUnder-unicode _ (enough r .unicode) (table (s .args .entries .now) (s .args .pool .now)) (s .pre .1), enough r .enough))
+
+same-length : tie.Need-same-length
+same-length c = search needs
+
+-- filled in
+returns : tie.Need-returns
+returns c =
+    let called = c .before .before in
+    let r = called .before .before in
+    let table = start r .pre .1 in
+    one-written table (filled-written table (enough r) (called .fill-unicode .ensures))
+
+fill-one-sized-requires : tie.Need-fill-one-sized-requires
+fill-one-sized-requires c κs = search needs
+
+same-length-2 : tie.Need-same-length-2
+same-length-2 c = search needs
+
+returns-2 : tie.Need-returns-2
+returns-2 c = search needs
+
+pub fill-one-spec : {M : Type 1} → statement M
+fill-one-spec =
+    tie.close
+    (tie.spec is-roomy-requires fill-unicode-requires same-length returns fill-one-sized-requires same-length-2 returns-2)
