@@ -1,8 +1,7 @@
 -- What the two halves of a comparing call come to: the order of the keys that two prepared texts show is the order of the texts,
 -- and equality goes by the order.
 -- Assumes nothing.
-use mathlib.Core.Path.{_≡_, refl, sym, ap, _∙_}
-use mathlib.Core.Bool.{true≢false}
+use mathlib.Core.Path.{_≡_, refl, ap}
 use Prim.Native.Nat.{ℕ, Ordering, Ordering·lt, Ordering·eq, Ordering·gt}
 use mathlib.Core.Option.{Option, none, some}
 use mathlib.Core.List.{List, [], _∷_}
@@ -14,13 +13,11 @@ use Rattle.keys.specs.Tables.{Table}
 use Rattle.keys.specs.Keys.{PreparedText}
 use Rattle.keys.specs.Summaries.{shownAt}
 use Rattle.keys.specs.declared.Summary.{Summary}
-use Rattle.prepare.specs.Calls.{Lent, Call, call, preparedIn, callRefusal, answerOf, Called}
+use Rattle.prepare.specs.Calls.{Lent, Call, call, preparedIn, callRefusal, answerOf, Answers, Called}
 use Rattle.prepare.specs.Preparing.{preparedValues, pairOutcome}
 use Rattle.prepare.specs.declared.PreparedPair.{PreparedPair}
 use Rattle.prepare.specs.declared.PreparedPair.the-variants.{Both}
-use Rattle.prepare.proofs.Answering.{answered-gives}
-use Rattle.prepare.proofs.CallRefusals.{unrefused-known}
-use Rattle.prepare.proofs.Shown.{shown-both}
+use Rattle.prepare.proofs.Shown.{shown-both, both-unrefused}
 use Rattle.compare.specs.Compare.{equalityOutcome, orderOutcome, orderNumber, equalityNumber, compared, orderValues, equalityValues, orderedBy, equalityBy}
 use Rattle.compare.specs.declared.Ordered.{Ordered}
 use Rattle.compare.specs.declared.Ordered.the-variants.{Less, Equal, Greater, Refused as Unordered}
@@ -34,19 +31,17 @@ orderOutcome-orderedBy Ordering·eq = refl
 orderOutcome-orderedBy Ordering·gt = refl
 
 -- two texts were prepared, and what they show was ordered
-pub orders-shown : {o : Option Collation} {t : Table} {l m : Lent} {p : PreparedPair} {sAfter tAfter : List ℕ} {one two : Summary} {r : Ordered}
-    → Called pairOutcome preparedValues (call o t (l ∷ m ∷ [])) p (sAfter ∷ tAfter ∷ [])
+pub orders-shown : {k : Collation} {t : Table} {l m : Lent} {x : Option Refusal} {p : PreparedPair} {sAfter tAfter : List ℕ}
+    {one two : Summary} {r : Ordered}
+    → Answers pairOutcome preparedValues x (call (some k) t (l ∷ m ∷ [])) p (sAfter ∷ tAfter ∷ [])
     → p ≡ Both one two
     → r
     ≡ orderedBy (orderOf (shownAt (one .place) (one .«key_length») (l .text) sAfter) (shownAt (two .place) (two .«key_length») (m .text) tAfter))
-    → Called orderOutcome orderValues (call o t (l ∷ m ∷ [])) r (sAfter ∷ tAfter ∷ [])
-orders-shown {o = none} {t} {l} {m} h e told =
-    let unrefused = answered-gives h _ (ap pairOutcome e) .0 in
-    absurd (true≢false (sym (unrefused-known none t (l ∷ m ∷ []) unrefused)))
-orders-shown {o = some k} h e told =
+    → Answers orderOutcome orderValues x (call (some k) t (l ∷ m ∷ [])) r (sAfter ∷ tAfter ∷ [])
+orders-shown h e told =
     let shown = shown-both h e in
     record {
-      answered = rw (told, shown .first, shown .second, shown .unrefused, orderOutcome-orderedBy);
+      answered = rw (told, shown .first, shown .second, both-unrefused h e, orderOutcome-orderedBy);
       left = h .left;
     }
 

@@ -5,15 +5,20 @@ use keys::Summary;
 use octets::Comparison;
 use prepare::CallCheck;
 use prepare::PreparedPair;
+use terms::Collation;
 use terms::Refusal;
 ghost use mathlib.Core.Path.{_≡_};
 ghost use mathlib.Core.List.{[], _∷_};
-ghost use mathlib.Core.Option.{none};
+ghost use mathlib.Core.Option.{none, some};
+ghost use Prim.Native.Nat.{_≤_};
+ghost use lib.ListN.{length};
 ghost use Rattle.terms.specs.Collations.{collationOf};
+ghost use Rattle.terms.specs.Refusals.{textMost};
 ghost use Rattle.octets.specs.Order.{orderOf};
 ghost use Rattle.keys.specs.Tables.{table};
+ghost use Rattle.keys.specs.Keys.{tableUnder};
 ghost use Rattle.keys.specs.Summaries.{shownAt};
-ghost use Rattle.prepare.specs.Calls.{tableCheck, twoCall, Called};
+ghost use Rattle.prepare.specs.Calls.{tableCheck, twoCall, Called, CalledReady};
 ghost use Rattle.compare.specs.Compare.{orderOutcome, equalityOutcome, orderValues, equalityValues, orderedBy, equalityBy};
 
 // Whether two texts are equal under a collation.
@@ -120,7 +125,37 @@ pub fn order_accepted(
     requires { ⌜ tableCheck (collationOf collation) (table (now entries) (now pool)) ≡ none ⌝ }
     ensures { λ r. ⌜ Called orderOutcome orderValues (twoCall (collationOf collation) (now (first .entry)) (now (second .entry)) (now (entries .entry)) (now (pool .entry)) (now («first_key» .entry)) (now («second_key» .entry))) r (now («first_key» .exit) ∷ now («second_key» .exit) ∷ []) ⌝ }
 {
-    let pair = prepare::prepare_two_accepted(
+    let texts = prepare::check_texts(collation, first.len(), second.len());
+    match texts {
+        CallCheck::Passed(known) => order_ready(
+            known,
+            first,
+            second,
+            entries,
+            pool,
+            first_key,
+            second_key,
+        ),
+        CallCheck::Refused(r) => Ordered::Refused(r),
+    }
+}
+
+// Orders two texts where 1 to 7 were passed.
+fn order_ready(
+    collation: Collation,
+    first: &[u8],
+    second: &[u8],
+    entries: &[u32],
+    pool: &[u32],
+    first_key: &mut [u8],
+    second_key: &mut [u8],
+) -> Ordered
+    requires { ⌜ length (now first) ≤ textMost ⌝ }
+    requires { ⌜ length (now second) ≤ textMost ⌝ }
+    requires { ⌜ tableUnder collation (table (now entries) (now pool)) ≡ none ⌝ }
+    ensures { λ r. ⌜ CalledReady orderOutcome orderValues (twoCall (some collation) (now (first .entry)) (now (second .entry)) (now (entries .entry)) (now (pool .entry)) (now («first_key» .entry)) (now («second_key» .entry))) r (now («first_key» .exit) ∷ now («second_key» .exit) ∷ []) ⌝ }
+{
+    let pair = prepare::fill_two(
         collation,
         first,
         second,

@@ -11,8 +11,9 @@ use Rattle.keys.specs.Tables.{Table, mappingT}
 use Rattle.keys.specs.Keys.{prepared, keyOf, keyed}
 use Rattle.keys.specs.Summaries.{shownAt}
 use Rattle.keys.specs.declared.Summary.{Summary}
+use Rattle.keys.proofs.Injective.{truth-inj}
 use Rattle.keys.proofs.Shown.{shownAt-keyed}
-use Rattle.prepare.specs.Calls.{Lent, call, callRefusal, Called}
+use Rattle.prepare.specs.Calls.{Lent, call, callRefusal, Answers}
 use Rattle.prepare.specs.Preparing.{preparationOutcome, pairOutcome, numbersOf, preparedValues, shownKey, Prepares}
 use Rattle.prepare.specs.declared.Preparation.{Preparation}
 use Rattle.prepare.specs.declared.Preparation.the-variants.{Prepared, Refused}
@@ -45,25 +46,27 @@ module _ {k : Collation} {t : Table} {l : Lent} {r : Preparation} {after : List 
 
 -- ---- two texts
 
--- what two texts that were prepared show: nothing was refused, and each key is its text's
+-- what two texts that were prepared show: each key is its text's
 pub record ShownBoth (k : Collation) (t : Table) (l m : Lent) (one two : Summary) (sAfter tAfter : List ℕ) : Type 0 where
-  pub unrefused : callRefusal (call (some k) t (l ∷ m ∷ [])) ≡ none
   pub first : shownAt (one .place) (one .«key_length») (l .text) sAfter ≡ keyOf k (mappingT t) (l .text)
   pub second : shownAt (two .place) (two .«key_length») (m .text) tAfter ≡ keyOf k (mappingT t) (m .text)
+  pub valid : two .valid ≡ prepared k (mappingT t) (m .text) .valid
 
--- two texts that were prepared show their keys
-pub shown-both : {k : Collation} {t : Table} {l m : Lent} {r : PreparedPair} {sAfter tAfter : List ℕ} {one two : Summary}
-    → Called pairOutcome preparedValues (call (some k) t (l ∷ m ∷ [])) r (sAfter ∷ tAfter ∷ [])
-    → r ≡ Both one two
-    → ShownBoth k t l m one two sAfter tAfter
-shown-both {k} {t} {l} {m} {r} {sAfter} {tAfter} {one} {two} h e =
-    let told = answered-gives h _ (ap pairOutcome e) in
-    let numbers = told .1 in
-    let left = rw (told .0) at (h .left) in
-    let left1 : sAfter ≡ keyed (prepared k (mappingT t) (l .text)) (l .buffer) = cc in
-    let left2 : tAfter ≡ keyed (prepared k (mappingT t) (m .text)) (m .buffer) = cc in
-    record {
-      unrefused = told .0;
-      first = rw left1 (shownAt-keyed k (mappingT t) (l .text) (l .buffer) one (cc));
-      second = rw left2 (shownAt-keyed k (mappingT t) (m .text) (m .buffer) two (cc));
-    }
+module _ {k : Collation} {t : Table} {l m : Lent} {x : Option Refusal} {r : PreparedPair} {sAfter tAfter : List ℕ} {one two : Summary}
+    (h : Answers pairOutcome preparedValues x (call (some k) t (l ∷ m ∷ [])) r (sAfter ∷ tAfter ∷ [])) (e : r ≡ Both one two) where
+  -- nothing was refused
+  pub both-unrefused : x ≡ none
+  both-unrefused = answered-gives h _ (ap pairOutcome e) .0
+
+  -- two texts that were prepared show their keys
+  pub shown-both : ShownBoth k t l m one two sAfter tAfter
+  shown-both =
+      let numbers = answered-gives h _ (ap pairOutcome e) .1 in
+      let left = rw both-unrefused at (h .left) in
+      let left1 : sAfter ≡ keyed (prepared k (mappingT t) (l .text)) (l .buffer) = cc in
+      let left2 : tAfter ≡ keyed (prepared k (mappingT t) (m .text)) (m .buffer) = cc in
+      record {
+        first = rw left1 (shownAt-keyed k (mappingT t) (l .text) (l .buffer) one (cc));
+        second = rw left2 (shownAt-keyed k (mappingT t) (m .text) (m .buffer) two (cc));
+        valid = truth-inj (two .valid) (prepared k (mappingT t) (m .text) .valid) (cc);
+      }

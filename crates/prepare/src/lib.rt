@@ -1,24 +1,24 @@
 // Calls that prepare texts (document 01, "Preparation", "Refusal numbers"): their checks, and the keys left in the key buffers.
 //
 // `prepare` and `shown_key` take any arguments at all: a checked call is its check, and then its `_accepted` twin, which asks for a table
-// that is accepted already. The functions of the module filling work where 1 to 7 were passed, and say so.
+// that is accepted already. The functions of the module filling work where 1 to 7 were passed, and say so: comparing calls stand on
+// `check_call`, `check_texts` and `fill_two`.
 mod checks;
 mod filling;
 
 pub use checks::check_call;
-use checks::check_texts;
+pub use checks::check_texts;
 use filling::fill_one;
-use filling::fill_two;
+pub use filling::fill_two;
 use keys::Summary;
 use terms::Collation;
 use terms::Refusal;
 ghost use mathlib.Core.Path.{_≡_};
-ghost use mathlib.Core.List.{[], _∷_};
 ghost use mathlib.Core.Option.{none};
 ghost use Rattle.terms.specs.Collations.{collationOf};
 ghost use Rattle.keys.specs.Tables.{table};
-ghost use Rattle.prepare.specs.Calls.{tableCheck, oneCall, twoCall, Called};
-ghost use Rattle.prepare.specs.Preparing.{preparedValues, pairOutcome, shownKey, Prepares};
+ghost use Rattle.prepare.specs.Calls.{tableCheck, oneCall};
+ghost use Rattle.prepare.specs.Preparing.{shownKey, Prepares};
 
 // What preparing a text answers.
 pub enum Preparation {
@@ -70,35 +70,6 @@ pub fn prepare_accepted(
     match texts {
         CallCheck::Passed(known) => fill_one(known, text, entries, pool, key),
         CallCheck::Refused(r) => Preparation::Refused(r),
-    }
-}
-
-// Prepares two texts for a comparison, each in its own key buffer, over a table that is accepted already. Nothing is written
-// unless both keys have room.
-pub fn prepare_two_accepted(
-    collation: u32,
-    first: &[u8],
-    second: &[u8],
-    entries: &[u32],
-    pool: &[u32],
-    first_key: &mut [u8],
-    second_key: &mut [u8],
-) -> PreparedPair
-    requires { ⌜ tableCheck (collationOf collation) (table (now entries) (now pool)) ≡ none ⌝ }
-    ensures { λ r. ⌜ Called pairOutcome preparedValues (twoCall (collationOf collation) (now (first .entry)) (now (second .entry)) (now (entries .entry)) (now (pool .entry)) (now («first_key» .entry)) (now («second_key» .entry))) r (now («first_key» .exit) ∷ now («second_key» .exit) ∷ []) ⌝ }
-{
-    let texts = check_texts(collation, first.len(), second.len());
-    match texts {
-        CallCheck::Passed(known) => fill_two(
-            known,
-            first,
-            second,
-            entries,
-            pool,
-            first_key,
-            second_key,
-        ),
-        CallCheck::Refused(r) => PreparedPair::Refused(r),
     }
 }
 

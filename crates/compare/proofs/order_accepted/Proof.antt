@@ -1,24 +1,36 @@
--- `compare::order_accepted` meets its contract: `prepare_two_accepted` prepares both texts, and `order_shown` orders what they show.
+-- `compare::order_accepted` meets its contract: the table passes, so that `check_texts` answers 1 to 7, and `order_ready`
+-- what is left of the call.
 -- Assumes nothing.
-use mathlib.Core.Path.{refl, ap}
+use mathlib.Core.Path.{refl}
+use lib.ListN.{length}
 use borrow.Author.Needs.{needs}
-use Rattle.prepare.specs.Preparing.{pairOutcome}
-use Rattle.prepare.proofs.Answering.{answers-on}
-use Rattle.compare.proofs.Calls.{orders-shown}
+use Rattle.terms.specs.Collations.{collationOf}
+use Rattle.keys.specs.Tables.{table}
+use Rattle.prepare.specs.Promises.{ChecksCall}
+use Rattle.prepare.proofs.CallRefusals.{checks-texts, ready-table, checks-passed, checks-refused, called-ready, called-refused}
 use Rattle.compare.proofs.order_accepted.Statement.{statement}
 use Rattle.compare.proofs.order_accepted.Tie as tie
 
-prepare-two-accepted-requires : tie.Need-prepare-two-accepted-requires
-prepare-two-accepted-requires c κs = search needs
+-- 1 to 7 were checked
+checked : (c : tie.After-check-texts) → let args = c .before .before .before .before .before .before .before .args in
+    ChecksCall (collationOf (args .collation)) (length (args .first .now)) (length (args .second .now)) (table (args .entries .now) (args .pool .now)) (c .check-texts .result)
+checked c = checks-texts (c .before .before .before .before .before .before .before .pre) (c .check-texts .ensures)
 
-enum-known-pair : tie.Need-enum-known-pair
-enum-known-pair c = search needs
+check-texts-requires : tie.Need-check-texts-requires
+check-texts-requires c κs = search needs
 
-order-shown-requires : tie.Need-order-shown-requires
-order-shown-requires c κs = search needs
+enum-known-texts : tie.Need-enum-known-texts
+enum-known-texts c = search needs
 
-enum-known-pair-2 : tie.Need-enum-known-pair-2
-enum-known-pair-2 c = search needs
+-- and passed
+order-ready-requires : tie.Need-order-ready-requires
+order-ready-requires c κs =
+    let told = c .before .before .before in
+    let passed = checks-passed (checked (told .before .before)) (told .texts .given .1) in
+    (passed .first, (passed .second, ready-table passed))
+
+enum-known-texts-2 : tie.Need-enum-known-texts-2
+enum-known-texts-2 c = search needs
 
 same-length : tie.Need-same-length
 same-length c = search needs
@@ -26,35 +38,29 @@ same-length c = search needs
 same-length-2 : tie.Need-same-length-2
 same-length-2 c = search needs
 
--- what they show is ordered
+-- what is left of the call decides
 returns : tie.Need-returns
 returns c =
-    let known = c .before .before .before .before in
-    orders-shown (known .before .before .before .before .before .before .prepare-two-accepted .ensures) (known .pair .given .1) (c .order-shown .ensures)
+    let called = c .before .before .before .before in
+    let told = called .before .before .before .before in
+    let passed = checks-passed (checked (told .before .before)) (told .texts .given .1) in
+    called-ready (passed .known) (passed .refusal) (called .order-ready .ensures)
 
-same-length-3 : tie.Need-same-length-3
-same-length-3 c = search needs
-
-same-length-4 : tie.Need-same-length-4
-same-length-4 c = search needs
-
--- refused
+-- refused for a text
 returns-2 : tie.Need-returns-2
 returns-2 c =
     let known = c .before in
-    answers-on (known .before .before .before .before .before .before .prepare-two-accepted .ensures) (ap pairOutcome (known .pair2 .given .1)) refl
+    called-refused (checks-refused (checked (known .before .before)) (known .texts2 .given .1)) refl
 
 pub order-accepted-spec : {M : Type 1} → statement M
 order-accepted-spec =
     tie.close
     (tie.spec
-    prepare-two-accepted-requires
-    enum-known-pair
-    order-shown-requires
-    enum-known-pair-2
+    check-texts-requires
+    enum-known-texts
+    order-ready-requires
+    enum-known-texts-2
     same-length
     same-length-2
     returns
-    same-length-3
-    same-length-4
     returns-2)
