@@ -7,6 +7,7 @@ use mathlib.Core.Option.{Option, none, some}
 use mathlib.Core.List.{List, [], _∷_}
 use Prim.Native.Nat.{ℕ}
 use lib.ListN.{length}
+use Rattle.terms.specs.Collations.{readsTable}
 use Rattle.terms.specs.Lists.{there}
 use Rattle.terms.specs.declared.Collation.{Collation}
 use Rattle.terms.specs.declared.Collation.the-variants.{UnicodeCasemap}
@@ -24,6 +25,10 @@ pub filled-kept : (m : Mapping) (t buffer : List ℕ) (o : Option (List Characte
     → KeyFilled (unicodePrepared m t o) buffer s buffer
 filled-kept m t buffer none s e h = record { numbers = h; left = refl }
 filled-kept m t buffer (some chs) s e h = absurd (true≢false e)
+
+-- where the table is read, it is the one that was checked
+pub tableUnder-reads : (k : Collation) (t : Table) → readsTable k ≡ true → tableUnder k t ≡ none → refusalT t ≡ none
+tableUnder-reads k t reads h = rw reads at h
 
 -- ---- under collation 3
 

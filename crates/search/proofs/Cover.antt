@@ -15,7 +15,8 @@ use Rattle.terms.specs.Lists.{each, total}
 use Rattle.table.specs.Mapping.{Mapping}
 use Rattle.utf8.specs.Utf8.{Character, characters}
 use Rattle.decompose.specs.Steps.{stepsKey}
-use Rattle.prepare.specs.Keys.{unicodePrepared, prepared, keyOf}
+use Rattle.terms.specs.declared.Collation.the-variants.{UnicodeCasemap}
+use Rattle.keys.specs.Keys.{unicodePrepared, keyOf}
 use Rattle.occurrence.specs.Occurrence.{occurrence}
 use Rattle.occurrence.proofs.Laws.{occurrence-within}
 use Rattle.search.specs.Covering.{Span, span, holder, fromTo, covering}
@@ -189,25 +190,24 @@ module _ (m : Mapping) (chs : List Character) (s e : ℕ) (h : s < e) (within : 
 
 -- a text that is not empty is found in a valid one under collation 3, first at octet i of its key
 module _ (m : Mapping) (s t : List ℕ) (chs : List Character) (i : ℕ) (valid : characters t ≡ some chs) (text : 0 < length s)
-    (found : occurrence (keyOf 3 m s) (keyOf 3 m t) ≡ some i) where
-  key-is : keyOf 3 m t ≡ stepsKey m chs
-  unfolding prepared
+    (found : occurrence (keyOf UnicodeCasemap m s) (keyOf UnicodeCasemap m t) ≡ some i) where
+  key-is : keyOf UnicodeCasemap m t ≡ stepsKey m chs
   key-is = ap (λ (o : Option (List Character)). unicodePrepared m t o .key) valid
 
-  named : textRun 3 m t (span i (i + length (keyOf 3 m s))) ≡ covering m chs (span i (i + length (keyOf 3 m s)))
-  named = ap (λ (o : Option (List Character)). runIn m o (span i (i + length (keyOf 3 m s)))) valid
+  named : textRun UnicodeCasemap m t (span i (i + length (keyOf UnicodeCasemap m s))) ≡ covering m chs (span i (i + length (keyOf UnicodeCasemap m s)))
+  named = ap (λ (o : Option (List Character)). runIn m o (span i (i + length (keyOf UnicodeCasemap m s)))) valid
 
-  within-key : i + length (keyOf 3 m s) ≤ length (stepsKey m chs)
-  within-key = omega (arith, occurrence-within (keyOf 3 m s) (keyOf 3 m t) i found, ap length key-is)
+  within-key : i + length (keyOf UnicodeCasemap m s) ≤ length (stepsKey m chs)
+  within-key = omega (arith, occurrence-within (keyOf UnicodeCasemap m s) (keyOf UnicodeCasemap m t) i found, ap length key-is)
 
   -- the run that the hit names is one of whole characters, and covers that occurrence
-  pub hit-covers : let e = i + length (keyOf 3 m s) in Covers m chs i e (textRun 3 m t (span i e))
+  pub hit-covers : let e = i + length (keyOf UnicodeCasemap m s) in Covers m chs i e (textRun UnicodeCasemap m t (span i e))
   hit-covers =
-      rw named (covering-covers m chs i (i + length (keyOf 3 m s)) (omega (arith, key-some 3 m s text)) within-key)
+      rw named (covering-covers m chs i (i + length (keyOf UnicodeCasemap m s)) (omega (arith, key-some UnicodeCasemap m s text)) within-key)
 
   -- and no smaller one does
-  pub hit-least : let e = i + length (keyOf 3 m s) in
+  pub hit-least : let e = i + length (keyOf UnicodeCasemap m s) in
       (a b : ℕ) → a ≤ b → b ≤ length chs → keyAt m chs a ≤ i → e ≤ keyAt m chs b
-      → (textAt chs a ≤ textRun 3 m t (span i e) .start) × (textRun 3 m t (span i e) .end ≤ textAt chs b)
+      → (textAt chs a ≤ textRun UnicodeCasemap m t (span i e) .start) × (textRun UnicodeCasemap m t (span i e) .end ≤ textAt chs b)
   hit-least =
-      rw named (covering-least m chs i (i + length (keyOf 3 m s)) (omega (arith, key-some 3 m s text)) within-key)
+      rw named (covering-least m chs i (i + length (keyOf UnicodeCasemap m s)) (omega (arith, key-some UnicodeCasemap m s text)) within-key)

@@ -1,4 +1,4 @@
-pub mod Answers
+pub mod Injective
 pub mod Holders
 pub mod Runs
 pub mod Seeking

@@ -5,21 +5,27 @@ mod covering;
 
 use covering::cover;
 use occurrence::Occurrence;
+use keys::Summary;
+use prepare::CallCheck;
 use prepare::PreparedPair;
-use prepare::Summary;
+use terms::Collation;
 use terms::KeyPosition;
 use terms::Refusal;
 use terms::TextPosition;
 ghost use mathlib.Core.Path.{_≡_};
-ghost use mathlib.Core.Option.{none};
+ghost use mathlib.Core.List.{[], _∷_};
+ghost use mathlib.Core.Option.{none, some};
+ghost use Prim.Native.Nat.{_≤_};
 ghost use lib.ListN.{length};
-ghost use Rattle.terms.specs.Refusals.{gives};
-ghost use Rattle.table.specs.Table.{mappingOf};
-ghost use Rattle.prepare.specs.Calls.{tableUnder};
+ghost use Rattle.terms.specs.Collations.{collationOf};
+ghost use Rattle.terms.specs.Refusals.{textMost, gives};
+ghost use Rattle.keys.specs.Tables.{table, mappingT};
+ghost use Rattle.keys.specs.Keys.{tableUnder};
+ghost use Rattle.prepare.specs.Calls.{tableCheck, twoCall, Called, CalledReady};
 ghost use Rattle.occurrence.specs.Occurrence.{occurrence};
 ghost use Rattle.search.specs.Covering.{span};
-ghost use Rattle.search.specs.Substring.{substringOutcome, textRun, hitValues, foundValues, substringValues};
-ghost use Rattle.search.specs.Promises.{Seeks, Shows, Readied, Hits};
+ghost use Rattle.search.specs.Substring.{substringOutcome, textRun, hitValues, foundValues, substringValues, soughtValues};
+ghost use Rattle.search.specs.Promises.{Shows, Seekable, Hits};
 
 // Where the first text's key occurs in the second's, and the run of whole characters of the second text that covers it.
 pub enum Sought {
@@ -43,32 +49,20 @@ pub fn substring(
     first_key: &mut [u8],
     second_key: &mut [u8],
 ) -> Sought
-    ensures { λ r. ⌜ Seeks collation (now (first .entry)) (now (second .entry)) (now (entries .entry)) (now (pool .entry)) (now («first_key» .entry)) (now («second_key» .entry)) r (now («first_key» .exit)) (now («second_key» .exit)) ⌝ }
+    ensures { λ r. ⌜ Called substringOutcome soughtValues (twoCall (collationOf collation) (now (first .entry)) (now (second .entry)) (now (entries .entry)) (now (pool .entry)) (now («first_key» .entry)) (now («second_key» .entry))) r (now («first_key» .exit) ∷ now («second_key» .exit) ∷ []) ⌝ }
 {
-    let pair = prepare::prepare_two(
-        collation,
-        first,
-        second,
-        entries,
-        pool,
-        first_key,
-        second_key,
-    );
-    match pair {
-        PreparedPair::Both(one, two) => {
-            seek_shown(
-                collation,
-                first,
-                first_key,
-                one,
-                second,
-                second_key,
-                two,
-                entries,
-                pool,
-            )
-        }
-        PreparedPair::Refused(r) => Sought::Refused(r),
+    let checked = prepare::check_call(collation, first.len(), second.len(), entries, pool);
+    match checked {
+        CallCheck::Passed(_) => substring_accepted(
+            collation,
+            first,
+            second,
+            entries,
+            pool,
+            first_key,
+            second_key,
+        ),
+        CallCheck::Refused(r) => Sought::Refused(r),
     }
 }
 
@@ -82,10 +76,40 @@ pub fn substring_accepted(
     first_key: &mut [u8],
     second_key: &mut [u8],
 ) -> Sought
-    requires { ⌜ tableUnder collation (now entries) (now pool) ≡ none ⌝ }
-    ensures { λ r. ⌜ Seeks collation (now (first .entry)) (now (second .entry)) (now (entries .entry)) (now (pool .entry)) (now («first_key» .entry)) (now («second_key» .entry)) r (now («first_key» .exit)) (now («second_key» .exit)) ⌝ }
+    requires { ⌜ tableCheck (collationOf collation) (table (now entries) (now pool)) ≡ none ⌝ }
+    ensures { λ r. ⌜ Called substringOutcome soughtValues (twoCall (collationOf collation) (now (first .entry)) (now (second .entry)) (now (entries .entry)) (now (pool .entry)) (now («first_key» .entry)) (now («second_key» .entry))) r (now («first_key» .exit) ∷ now («second_key» .exit) ∷ []) ⌝ }
 {
-    let pair = prepare::prepare_two_accepted(
+    let texts = prepare::check_texts(collation, first.len(), second.len());
+    match texts {
+        CallCheck::Passed(known) => seek_ready(
+            known,
+            first,
+            second,
+            entries,
+            pool,
+            first_key,
+            second_key,
+        ),
+        CallCheck::Refused(r) => Sought::Refused(r),
+    }
+}
+
+// Seeks the first text in the second where 1 to 7 were passed.
+fn seek_ready(
+    collation: Collation,
+    first: &[u8],
+    second: &[u8],
+    entries: &[u32],
+    pool: &[u32],
+    first_key: &mut [u8],
+    second_key: &mut [u8],
+) -> Sought
+    requires { ⌜ length (now first) ≤ textMost ⌝ }
+    requires { ⌜ length (now second) ≤ textMost ⌝ }
+    requires { ⌜ tableUnder collation (table (now entries) (now pool)) ≡ none ⌝ }
+    ensures { λ r. ⌜ CalledReady substringOutcome soughtValues (twoCall (some collation) (now (first .entry)) (now (second .entry)) (now (entries .entry)) (now (pool .entry)) (now («first_key» .entry)) (now («second_key» .entry))) r (now («first_key» .exit) ∷ now («second_key» .exit) ∷ []) ⌝ }
+{
+    let pair = prepare::fill_two(
         collation,
         first,
         second,
@@ -114,7 +138,7 @@ pub fn substring_accepted(
 
 // The first text sought in the second, over the keys that the two prepared texts show.
 fn seek_shown<'a, 'b>(
-    collation: u32,
+    collation: Collation,
     first: &'a [u8],
     first_key: &'a [u8],
     one: Summary,
@@ -124,9 +148,9 @@ fn seek_shown<'a, 'b>(
     entries: &[u32],
     pool: &[u32],
 ) -> Sought
-    requires { ⌜ tableUnder collation (now entries) (now pool) ≡ none ⌝ }
-    requires { ⌜ Shows collation (mappingOf (now entries) (now pool)) (now first) (now «first_key») one (now second) (now «second_key») two ⌝ }
-    ensures { λ r. ⌜ substringOutcome r ≡ gives (substringValues collation (mappingOf (now (entries .entry)) (now (pool .entry))) (now (first .entry)) (now (second .entry))) ⌝ }
+    requires { ⌜ tableUnder collation (table (now entries) (now pool)) ≡ none ⌝ }
+    requires { ⌜ Shows collation (mappingT (table (now entries) (now pool))) (now first) (now «first_key») one (now second) (now «second_key») two ⌝ }
+    ensures { λ r. ⌜ substringOutcome r ≡ gives (substringValues collation (mappingT (table (now (entries .entry)) (now (pool .entry)))) (now (first .entry)) (now (second .entry))) ⌝ }
 {
     if first.len() == 0 {
         return Sought::Match {
@@ -136,14 +160,14 @@ fn seek_shown<'a, 'b>(
             text_end: TextPosition(0),
         };
     }
-    let needle = prepare::shown_part(first, first_key, one);
-    let hay = prepare::shown_part(second, second_key, two);
+    let needle = keys::shown_part(first, first_key, one);
+    let hay = keys::shown_part(second, second_key, two);
     seek_key(collation, needle, hay, second, two.valid, entries, pool)
 }
 
 // A key that is not empty sought in the second text's key.
 fn seek_key(
-    collation: u32,
+    collation: Collation,
     needle: &[u8],
     hay: &[u8],
     second: &[u8],
@@ -151,9 +175,9 @@ fn seek_key(
     entries: &[u32],
     pool: &[u32],
 ) -> Sought
-    requires { ⌜ tableUnder collation (now entries) (now pool) ≡ none ⌝ }
-    requires { ⌜ Readied collation (mappingOf (now entries) (now pool)) (now needle) (now hay) (now second) valid ⌝ }
-    ensures { λ r. ⌜ substringOutcome r ≡ gives (foundValues collation (mappingOf (now (entries .entry)) (now (pool .entry))) (now (second .entry)) (length (now (needle .entry))) (occurrence (now (needle .entry)) (now (hay .entry)))) ⌝ }
+    requires { ⌜ tableUnder collation (table (now entries) (now pool)) ≡ none ⌝ }
+    requires { ⌜ Seekable collation (mappingT (table (now entries) (now pool))) (now needle) (now hay) (now second) valid ⌝ }
+    ensures { λ r. ⌜ substringOutcome r ≡ gives (foundValues collation (mappingT (table (now (entries .entry)) (now (pool .entry)))) (now (second .entry)) (length (now (needle .entry))) (occurrence (now (needle .entry)) (now (hay .entry)))) ⌝ }
 {
     let found = occurrence::find(needle, hay);
     match found {
@@ -176,7 +200,7 @@ fn seek_key(
 
 // A hit at a part of the second text's key, with the run of the text that covers it.
 fn hit(
-    collation: u32,
+    collation: Collation,
     second: &[u8],
     valid: bool,
     entries: &[u32],
@@ -184,11 +208,11 @@ fn hit(
     start: KeyPosition,
     end: KeyPosition,
 ) -> Sought
-    requires { ⌜ tableUnder collation (now entries) (now pool) ≡ none ⌝ }
-    requires { ⌜ Hits collation (mappingOf (now entries) (now pool)) (now second) valid (start .0) (end .0) ⌝ }
-    ensures { λ r. ⌜ substringOutcome r ≡ gives (hitValues (span (start .0) (end .0)) (textRun collation (mappingOf (now (entries .entry)) (now (pool .entry))) (now (second .entry)) (span (start .0) (end .0)))) ⌝ }
+    requires { ⌜ tableUnder collation (table (now entries) (now pool)) ≡ none ⌝ }
+    requires { ⌜ Hits collation (mappingT (table (now entries) (now pool))) (now second) valid (start .0) (end .0) ⌝ }
+    ensures { λ r. ⌜ substringOutcome r ≡ gives (hitValues (span (start .0) (end .0)) (textRun collation (mappingT (table (now (entries .entry)) (now (pool .entry)))) (now (second .entry)) (span (start .0) (end .0)))) ⌝ }
 {
-    if collation == terms::UNICODE_CASEMAP {
+    if terms::reads_table(collation) {
         if valid {
             let run = cover(second, entries, pool, start, end);
             let text_start = run.start;

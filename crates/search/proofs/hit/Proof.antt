@@ -1,61 +1,68 @@
 -- `search::hit` meets its contract: the two tests say whether the run is the covering one.
 -- Assumes nothing.
-use mathlib.Core.Path.{ap}
+use mathlib.Core.Path.{_≡_, sym, ap, _∙_}
+use mathlib.Core.Bool.{true}
+use borrow.Author.Needs.{needs}
+use Rattle.terms.specs.Collations.{readsTable}
 use Rattle.terms.specs.Refusals.{gives}
 use Rattle.table.specs.Mapping.{Mapping}
-use Rattle.table.specs.Table.{mappingOf}
-use Rattle.prepare.proofs.Collations.{tableUnder-unicode}
+use Rattle.keys.specs.Tables.{table, mappingT}
+use Rattle.keys.proofs.Collations.{tableUnder-reads}
 use Rattle.search.specs.Covering.{Span, span}
 use Rattle.search.specs.Substring.{hitValues}
-use Rattle.search.proofs.Seeking.{hits-within, hits-invalid, textRun-unicode, textRun-other}
+use Rattle.search.proofs.Seeking.{hits-within, hits-invalid, textRun-reads, textRun-other}
 use Rattle.search.proofs.hit.Statement.{statement}
 use Rattle.search.proofs.hit.Tie as tie
 
--- the function's entry, and the mapping of the table
-abbrev start : tie.After-shared-slice-known3 → tie.Start
-start c = c .before .before .before
+-- where the table is read: the function's entry, and that it is
+abbrev start : tie.Then1 → tie.Start
+start c = c .before .before .before .before .before
 
-abbrev mapping : tie.After-shared-slice-known3 → Mapping
-mapping c = mappingOf (start c .args .entries .now) (start c .args .pool .now)
+reads : (c : tie.Then1) → readsTable (start c .args .collation) ≡ true
+reads c = sym (c .before .reads-table .ensures) ∙ c .if1 .taken
 
--- collation 3, and the text is valid
+-- the mapping of the table
+abbrev mapping : tie.Start → Mapping
+mapping s = mappingT (table (s .args .entries .now) (s .args .pool .now))
+
+-- a hit at a part of the key, by its run
+hit-run : (part : Span) {a b : Span} → a ≡ b → gives (hitValues part a) ≡ gives (hitValues part b)
+hit-run part e = ap (λ (run : Span). gives (hitValues part run)) e
+
+reads-table-requires : tie.Need-reads-table-requires
+reads-table-requires c κs = search needs
+
+-- the table is read, and the text is valid
 cover-requires : tie.Need-cover-requires
 cover-requires c κs =
-    let three = c .before in
-    let s = start (three .before) in (
-      tableUnder-unicode (s .args .collation) (s .args .entries .now) (s .args .pool .now) (three .if1 .taken) (s .pre .0),
-      hits-within (s .args .collation) (mapping (three .before)) (s .args .second .now) (s .args .valid) (s .args .start .0)
-          (s .args .end .0) (s .pre .1) (three .if1 .taken) (c .if2 .taken),
+    let r = c .before in
+    let s = start r in (
+      tableUnder-reads (s .args .collation) (table (s .args .entries .now) (s .args .pool .now)) (reads r) (s .pre .0),
+      hits-within _ _ _ _ _ _ (s .pre .1) (reads r) (c .if2 .taken),
     )
 
 -- the covering run
 returns : tie.Need-returns
 returns c =
     let covered = c .before .before in
-    let three = covered .before .before in
-    let s = start (three .before) in
-    let part = span (s .args .start .0) (s .args .end .0) in
-    ap (λ (run : Span). gives (hitValues part run))
-    (textRun-unicode (s .args .collation) (mapping (three .before)) (s .args .second .now) part _ (three .if1 .taken)
-    (covered .cover .ensures))
+    let r = covered .before .before in
+    let s = start r in
+    hit-run (span (s .args .start .0) (s .args .end .0)) 
+    (textRun-reads (s .args .collation) (mapping s) (s .args .second .now) _ _ (reads r) (covered .cover .ensures))
 
 -- the text is not valid
 returns-2 : tie.Need-returns-2
 returns-2 c =
-    let three = c .before in
-    let s = start (three .before) in
-    let part = span (s .args .start .0) (s .args .end .0) in
-    ap (λ (run : Span). gives (hitValues part run))
-    (hits-invalid (s .args .collation) (mapping (three .before)) (s .args .second .now) (s .args .valid) (s .args .start .0)
-    (s .args .end .0) (s .pre .1) (three .if1 .taken) (c .if2 .left))
+    let r = c .before in
+    let s = start r in
+    hit-run (span (s .args .start .0) (s .args .end .0)) (hits-invalid _ _ _ _ _ _ (s .pre .1) (reads r) (c .if2 .left))
 
--- another collation
+-- the table is not read
 returns-3 : tie.Need-returns-3
 returns-3 c =
-    let s = start (c .before) in
-    let part = span (s .args .start .0) (s .args .end .0) in
-    ap (λ (run : Span). gives (hitValues part run))
-    (textRun-other (s .args .collation) (mapping (c .before)) (s .args .second .now) part (c .if1 .left))
+    let s = c .before .before .before .before .before in
+    hit-run (span (s .args .start .0) (s .args .end .0)) 
+    (textRun-other (s .args .collation) (mapping s) (s .args .second .now) _ (sym (c .before .reads-table .ensures) ∙ c .if1 .left))
 
 pub hit-spec : {M : Type 1} → statement M
-hit-spec = tie.close (tie.spec cover-requires returns returns-2 returns-3)
+hit-spec = tie.close (tie.spec reads-table-requires cover-requires returns returns-2 returns-3)

@@ -6,7 +6,7 @@ use Prim.Native.Nat.{ℕ}
 use native.Mathlib.Omega.{arith}
 use borrow.Author.Needs.{needs}
 use Rattle.table.specs.Mapping.{Mapping}
-use Rattle.table.specs.Table.{mappingOf}
+use Rattle.keys.specs.Tables.{table, mappingT}
 use Rattle.occurrence.specs.Occurrence.{occurrence}
 use Rattle.occurrence.specs.Promises.{placeFound}
 use Rattle.occurrence.proofs.Laws.{occurrence-within}
@@ -19,7 +19,7 @@ abbrev start : tie.After-find → tie.Start
 start c = c .before .before .before .before .before .before
 
 abbrev mapping : tie.After-find → Mapping
-mapping c = mappingOf (start c .args .entries .now) (start c .args .pool .now)
+mapping c = mappingT (table (start c .args .entries .now) (start c .args .pool .now))
 
 -- where the needle was found
 abbrev place : tie.After-found → ℕ
@@ -49,8 +49,7 @@ hit-requires c κs =
     let called = at .before .before in
     let s = start called in (
       s .pre .0,
-      found-hits (s .args .collation) (mapping called) (s .args .needle .now) (s .args .hay .now) (s .args .second .now) (s .args .valid)
-          (s .pre .1) (place at) (found at),
+      found-hits (s .pre .1) (place at) (found at),
     )
 
 enum-told : tie.Need-enum-told

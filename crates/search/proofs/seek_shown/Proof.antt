@@ -4,9 +4,9 @@ use mathlib.Core.Path.{_≡_, ap, _∙_}
 use borrow.Author.Needs.{needs}
 use Rattle.terms.specs.Refusals.{gives}
 use Rattle.table.specs.Mapping.{Mapping}
-use Rattle.table.specs.Table.{mappingOf}
-use Rattle.prepare.specs.Keys.{keyOf}
-use Rattle.search.proofs.Seeking.{values-empty, values-found, shows-readied}
+use Rattle.keys.specs.Tables.{table, mappingT}
+use Rattle.keys.specs.Keys.{keyOf}
+use Rattle.search.proofs.Seeking.{values-empty, values-found, shows-seekable}
 use Rattle.search.proofs.seek_shown.Statement.{statement}
 use Rattle.search.proofs.seek_shown.Tie as tie
 
@@ -15,7 +15,7 @@ abbrev start : tie.After-shared-slice-known6 → tie.Start
 start c = c .before .before .before .before .before .before
 
 abbrev mapping : tie.After-shared-slice-known6 → Mapping
-mapping c = mappingOf (start c .args .entries .now) (start c .args .pool .now)
+mapping c = mappingT (table (start c .args .entries .now) (start c .args .pool .now))
 
 -- the empty text
 returns : tie.Need-returns
@@ -45,8 +45,7 @@ seek-key-requires c κs =
     let other = c .before .before in
     let s = start (other .before) in (
       s .pre .0,
-      shows-readied (s .args .collation) (mapping (other .before)) (s .args .first .now) (s .args .first-key .now) (s .args .one)
-          (s .args .second .now) (s .args .second-key .now) (s .args .two) _ _ (s .pre .1) (other .if1 .left) (first-key c) (second-key c),
+      shows-seekable (s .pre .1) (other .if1 .left) (first-key c) (second-key c),
     )
 
 -- what is found

@@ -1,40 +1,36 @@
--- `search::substring_accepted` meets its contract: `prepare::prepare_two_accepted` either refuses the call, or both texts show their keys to `seek_shown`.
+-- `search::substring_accepted` meets its contract: the table passes, so that `check_texts` answers 1 to 7, and `seek_ready`
+-- what is left of the call.
 -- Assumes nothing.
+use mathlib.Core.Path.{refl}
+use lib.ListN.{length}
 use borrow.Author.Needs.{needs}
-use Rattle.search.proofs.Seeking.{both-table, both-shows, seeks-both, seeks-refused}
+use Rattle.terms.specs.Collations.{collationOf}
+use Rattle.keys.specs.Tables.{table}
+use Rattle.prepare.specs.Promises.{ChecksCall}
+use Rattle.prepare.proofs.CallRefusals.{checks-texts, ready-table, checks-passed, checks-refused, called-ready, called-refused}
 use Rattle.search.proofs.substring_accepted.Statement.{statement}
 use Rattle.search.proofs.substring_accepted.Tie as tie
 
--- the function's entry, seen from past the preparation
-abbrev start : tie.After-prepare-two-accepted → tie.Start
-start c = c .before .before .before .before .before .before .before .before .before
+-- 1 to 7 were checked
+checked : (c : tie.After-check-texts) → let args = c .before .before .before .before .before .before .before .args in
+    ChecksCall (collationOf (args .collation)) (length (args .first .now)) (length (args .second .now)) (table (args .entries .now) (args .pool .now)) (c .check-texts .result)
+checked c = checks-texts (c .before .before .before .before .before .before .before .pre) (c .check-texts .ensures)
 
--- where both texts were prepared: past the preparation
-abbrev prepared-at : tie.After-pair → tie.After-prepare-two-accepted
-prepared-at c = c .before .before .before .before .before .before
+check-texts-requires : tie.Need-check-texts-requires
+check-texts-requires c κs = search needs
 
-prepare-two-accepted-requires : tie.Need-prepare-two-accepted-requires
-prepare-two-accepted-requires c κs = search needs
+enum-known-texts : tie.Need-enum-known-texts
+enum-known-texts c = search needs
 
-enum-known-pair : tie.Need-enum-known-pair
-enum-known-pair c = search needs
+-- and passed
+seek-ready-requires : tie.Need-seek-ready-requires
+seek-ready-requires c κs =
+    let told = c .before .before .before in
+    let passed = checks-passed (checked (told .before .before)) (told .texts .given .1) in
+    (passed .first, (passed .second, ready-table passed))
 
--- both texts show their keys
-seek-shown-requires : tie.Need-seek-shown-requires
-seek-shown-requires c κs =
-    let pair = c .before .before .before in
-    let called = prepared-at pair in
-    let s = start called in (
-      both-table (s .args .collation) (s .args .first .now) (s .args .second .now) (s .args .entries .now) (s .args .pool .now)
-          (s .args .first-key .now) (s .args .second-key .now) (called .prepare-two-accepted .result) _ _ (called .prepare-two-accepted .ensures)
-          (pair .pair .given .0 .0) (pair .pair .given .0 .1 .0) (pair .pair .given .1),
-      both-shows (s .args .collation) (s .args .first .now) (s .args .second .now) (s .args .entries .now) (s .args .pool .now)
-          (s .args .first-key .now) (s .args .second-key .now) (called .prepare-two-accepted .result) _ _ (called .prepare-two-accepted .ensures)
-          (pair .pair .given .0 .0) (pair .pair .given .0 .1 .0) (pair .pair .given .1),
-    )
-
-enum-known-pair-2 : tie.Need-enum-known-pair-2
-enum-known-pair-2 c = search needs
+enum-known-texts-2 : tie.Need-enum-known-texts-2
+enum-known-texts-2 c = search needs
 
 same-length : tie.Need-same-length
 same-length c = search needs
@@ -42,43 +38,29 @@ same-length c = search needs
 same-length-2 : tie.Need-same-length-2
 same-length-2 c = search needs
 
--- sought
+-- what is left of the call decides
 returns : tie.Need-returns
 returns c =
-    let pair = c .before .before .before .before in
-    let called = prepared-at pair in
-    let s = start called in
-    seeks-both (s .args .collation) (s .args .first .now) (s .args .second .now) (s .args .entries .now) (s .args .pool .now)
-    (s .args .first-key .now) (s .args .second-key .now) (called .prepare-two-accepted .result) _ _ (called .prepare-two-accepted .ensures)
-    (pair .pair .given .0 .0) (pair .pair .given .0 .1 .0) (pair .pair .given .1) (c .seek-shown .result) (c .seek-shown .ensures)
+    let called = c .before .before .before .before in
+    let told = called .before .before .before .before in
+    let passed = checks-passed (checked (told .before .before)) (told .texts .given .1) in
+    called-ready (passed .known) (passed .refusal) (called .seek-ready .ensures)
 
-same-length-3 : tie.Need-same-length-3
-same-length-3 c = search needs
-
-same-length-4 : tie.Need-same-length-4
-same-length-4 c = search needs
-
--- refused
+-- refused for a text
 returns-2 : tie.Need-returns-2
 returns-2 c =
-    let pair = c .before in
-    let called = pair .before .before .before .before .before .before in
-    let s = start called in
-    seeks-refused (s .args .collation) (s .args .first .now) (s .args .second .now) (s .args .entries .now) (s .args .pool .now)
-    (s .args .first-key .now) (s .args .second-key .now) (called .prepare-two-accepted .result) _ _ (called .prepare-two-accepted .ensures)
-    (pair .pair2 .given .0 .0) (pair .pair2 .given .1)
+    let known = c .before in
+    called-refused (checks-refused (checked (known .before .before)) (known .texts2 .given .1)) refl
 
 pub substring-accepted-spec : {M : Type 1} → statement M
 substring-accepted-spec =
     tie.close
     (tie.spec
-    prepare-two-accepted-requires
-    enum-known-pair
-    seek-shown-requires
-    enum-known-pair-2
+    check-texts-requires
+    enum-known-texts
+    seek-ready-requires
+    enum-known-texts-2
     same-length
     same-length-2
     returns
-    same-length-3
-    same-length-4
     returns-2)

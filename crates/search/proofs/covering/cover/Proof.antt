@@ -3,7 +3,7 @@
 use native.Mathlib.Omega.{arith}
 use borrow.Author.Needs.{needs}
 use Rattle.table.specs.Mapping.{Mapping}
-use Rattle.table.specs.Table.{mappingOf}
+use Rattle.keys.specs.Tables.{table, mappingT}
 use Rattle.search.proofs.Runs.{first-ahead, first-offset, last-ahead, run-covers}
 use Rattle.search.proofs.covering.cover.Statement.{statement}
 use Rattle.search.proofs.covering.cover.Tie as tie
@@ -13,7 +13,7 @@ abbrev start : tie.After-shared-slice-known3 → tie.Start
 start c = c .before .before .before
 
 abbrev mapping : tie.After-shared-slice-known3 → Mapping
-mapping c = mappingOf (start c .args .entries .now) (start c .args .pool .now)
+mapping c = mappingT (table (start c .args .entries .now) (start c .args .pool .now))
 
 -- the first octet is within the key
 find-holder-requires : tie.Need-find-holder-requires

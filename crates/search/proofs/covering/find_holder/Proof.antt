@@ -10,14 +10,14 @@ use borrow.Author.Needs.{needs}
 use lib.ListN.{length, drop}
 use Rattle.table.specs.Mapping.{Mapping}
 use Rattle.utf8.specs.Utf8.{Character, character, decode}
-use Rattle.prepare.proofs.Walks.{decode-drop-fits, there-next}
-use Rattle.table.specs.Table.{mappingOf}
+use Rattle.keys.proofs.Walks.{decode-drop-fits, there-next}
+use Rattle.keys.specs.Tables.{table, mappingT}
 use Rattle.search.proofs.Holders.{Walking, walking-start, walking-more, walking-found, walking-done}
 use Rattle.search.proofs.covering.find_holder.Statement.{statement}
 use Rattle.search.proofs.covering.find_holder.Tie as tie
 
 abbrev Inv-loop : tie.InvT-loop
-Inv-loop text entries pool at₀ left₀ at left = Walking (mappingOf entries pool) text at₀ left₀ at left
+Inv-loop text entries pool at₀ left₀ at left = Walking (mappingT (table entries pool)) text at₀ left₀ at left
 
 abbrev μ-loop : tie.MeasureT-loop
 μ-loop text entries pool at₀ left₀ at left = length text - at
@@ -27,7 +27,7 @@ abbrev start : tie.At-loop Inv-loop μ-loop → tie.Start Inv-loop μ-loop
 start l = l .before .before .before .before
 
 abbrev mapping : tie.At-loop Inv-loop μ-loop → Mapping
-mapping l = mappingOf (start l .args .entries .now) (start l .args .pool .now)
+mapping l = mappingT (table (start l .args .entries .now) (start l .args .pool .now))
 
 abbrev text-of : tie.At-loop Inv-loop μ-loop → List ℕ
 text-of l = start l .args .text .now
