@@ -1,7 +1,8 @@
 -- The three demands, each sentence with the theorems that render it.
--- A theorem is about a public call. It takes the call's contract, which `rt check` proves of the code: `Prepares`, `Equals`,
--- `Orders`, `Seeks` and `Added`, and of `check_table` the equation `checkOutcome r ≡ tableAnswer es pool`. It says the sentence of
--- the answer r and of the slices afterwards. The `_accepted` calls have the same contracts, so it holds of them too.
+-- A theorem is about a public call. It takes the call's contract, which `rt check` proves of the code: of a call on texts `Prepares` or
+-- `Called` with the call's outcome and values, which speak of one value c, the call; of `add_line` `Added`; of `check_table` the equation
+-- `checkOutcome r ≡ tableAnswer t`. It says the sentence of the answer r and of the slices afterwards. The `_accepted` calls have
+-- the same contracts, so it holds of them too. Where a theorem has `call (some k) ..`, the call's number names the collation k.
 -- Beside the definitions of specs/: `OrderSays` and `EqualSays`, the contracts of `order` and `equal` with an answer that is no
 -- refusal, stand in crates/compare/proofs/Says.antt, `Covers` in crates/search/proofs/Cover.antt, and `Sound` and
 -- `UnfoldsWell` in crates/decompose/proofs/Demand3.antt.
@@ -9,49 +10,48 @@
 use mathlib.Core.Path.{_≡_, refl, sym, ap, _∙_}
 use Prim.Native.Nat.{ℕ, _*_, _≤_, _<_}
 use native.Mathlib.Omega.{arith}
+use mathlib.Core.Bool.{true}
 use mathlib.Core.Logic.{_⊎_, _↔_}
 use mathlib.Core.Option.{Option, none, some}
 use mathlib.Core.List.{List, [], _∷_, map}
 use lib.ListN.{length}
+use Rattle.terms.specs.Collations.{collationOf}
 use Rattle.terms.specs.Lists.{there, lowest}
-use Rattle.terms.specs.Refusals.{refusal, first, gives}
+use Rattle.terms.specs.Refusals.{refusal, first, Outcome, refused, gives, checkOutcome}
+use Rattle.terms.specs.declared.Check.{Check}
+use Rattle.terms.specs.declared.Check.the-variants.{Passed}
+use Rattle.terms.specs.declared.Collation.{Collation}
+use Rattle.terms.specs.declared.Collation.the-variants.{Octet, AsciiCasemap, UnicodeCasemap}
 use Rattle.terms.specs.declared.Refusal.{Refusal}
 use Rattle.terms.specs.declared.KeyPosition.{KeyPosition}
 use Rattle.terms.specs.declared.TextPosition.{TextPosition}
-use Rattle.terms.proofs.Checks.{orElse-none, orElse-assoc, answer-given, answer-refused}
+use Rattle.terms.proofs.Checks.{answer-given, answer-refused}
+use Rattle.terms.proofs.Injective.{checkOutcome-inj}
 use Rattle.utf8.specs.Utf8.{Character, characters}
 use Rattle.table.specs.Mapping.{Mapping}
-use Rattle.table.specs.Table.{entryCount, refusedAt, formChecks, formRefusal, titleOf, partsOf, mappingOf}
-use Rattle.table.specs.Promises.{checkOutcome}
-use Rattle.table.specs.declared.TableCheck.{TableCheck}
-use Rattle.table.specs.declared.TableCheck.the-variants.{Accepted, Refused as TableRefused}
-use Rattle.table.proofs.Answers.{checkOutcome-inj}
+use Rattle.table.specs.Table.{Table, entryCount, refusedAt, formChecks, formRefusal, titleOf, partsOf, mappingOf}
 use Rattle.decompose.specs.Steps.{stepsKey}
 use Rattle.decompose.specs.TableCheck.{faultyLevel, tableRefusal, tableAnswer}
 use Rattle.decompose.proofs.Demand3.{UnfoldsWell, Sound, accepted-exactly, accepted-level, accepted-lookups, accepted-key}
-use Rattle.prepare.specs.Keys.{upper, prepared, keyOf, roomFor}
-use Rattle.prepare.specs.Calls.{Lent, callRefusal, preparationOutcome, prepareRefusal, shownKey, compareRefusal}
-use Rattle.prepare.specs.Promises.{Prepares}
-use Rattle.prepare.specs.declared.Summary.{Summary}
+use Rattle.keys.specs.Keys.{PreparedText, upper, prepared, keyOf, roomFor}
+use Rattle.keys.specs.declared.Summary.{Summary}
+use Rattle.keys.proofs.Validity.{key-valid, key-invalid}
+use Rattle.prepare.specs.Calls.{Lent, Call, lent, call, readyRefusal, callRefusal, Called}
+use Rattle.prepare.specs.Preparing.{shownKey, Prepares}
 use Rattle.prepare.specs.declared.Preparation.{Preparation}
 use Rattle.prepare.specs.declared.Preparation.the-variants.{Prepared, Refused as PrepareRefused}
-use Rattle.prepare.proofs.Answers.{preparationOutcome-inj}
-use Rattle.prepare.proofs.Validity.{key-valid, key-invalid}
-use Rattle.compare.specs.Compare.{equalityOutcome, orderOutcome}
-use Rattle.compare.specs.Promises.{Equals, Orders}
+use Rattle.prepare.proofs.Answering.{answered-gives, answered-refused}
+use Rattle.compare.specs.Compare.{equalityOutcome, orderOutcome, equalityValues, orderValues}
 use Rattle.compare.specs.declared.Equality.{Equality}
-use Rattle.compare.specs.declared.Equality.the-variants.{Match, Refused as EqualRefused}
+use Rattle.compare.specs.declared.Equality.the-variants.{Match}
 use Rattle.compare.specs.declared.Ordered.{Ordered}
-use Rattle.compare.specs.declared.Ordered.the-variants.{Less, Equal, Greater, Refused as OrderRefused}
-use Rattle.compare.proofs.Answers.{equalityOutcome-inj, orderOutcome-inj}
-use Rattle.compare.proofs.Says.{OrderSays, EqualSays, flipped}
+use Rattle.compare.specs.declared.Ordered.the-variants.{Less, Equal, Greater}
+use Rattle.compare.proofs.Says.{isGiven, OrderSays, EqualSays, flipped, says}
 use Rattle.compare.proofs.Preorder.{matches-tie, matches-valid, answers-tie, answers-match, answers-refl, answers-flip, answers-trans, answers-total, answers-valid}
 use Rattle.search.specs.Covering.{Span, span}
-use Rattle.search.specs.Substring.{substringOutcome, substringValues}
-use Rattle.search.specs.Promises.{Seeks}
+use Rattle.search.specs.Substring.{substringOutcome, substringValues, soughtValues}
 use Rattle.search.specs.declared.Sought.{Sought}
-use Rattle.search.specs.declared.Sought.the-variants.{Match as Found, NoMatch, Refused as SoughtRefused}
-use Rattle.search.proofs.Answers.{substringOutcome-inj}
+use Rattle.search.specs.declared.Sought.the-variants.{Match as Found, NoMatch}
 use Rattle.search.proofs.Cover.{Covers}
 use Rattle.ucd.specs.Builder.{Built, said, lineOutcome, stateAfter, Added}
 use Rattle.ucd.specs.Built.{startOf, cutEntries, cutPool, refusalOf, acceptedOf, Accepts, saidMapping}
@@ -62,8 +62,8 @@ use Rattle.ucd.proofs.Answers.{lineOutcome-inj}
 use Rattle.ucd.proofs.Accepted.{addLine-refused}
 use Rattle.ucd.proofs.BuiltForm.{built-form}
 use Rattle.ucd.proofs.BuiltMapping.{mappingOf-built, built-line, built-other}
-use Rattle.demands.specs.Demands.{Given, FirstApplies, tableChecks, prepareChecks, compareChecks, Collation, oneToSeven, keyOver, Precedes, Stands, Hit, Grows, Exact, Short, Bounds}
-use Rattle.demands.proofs.Rows.{first-exactly, first-append, refused-exactly, given-values}
+use Rattle.demands.specs.Demands.{Given, FirstApplies, tableChecks, callChecks, CollationNumber, Precedes, OccursAt, Hit, Grows, Exact, Short, Bounds}
+use Rattle.demands.proofs.Rows.{first-exactly, first-append, first-callChecks}
 use Rattle.demands.proofs.Numbers.{one-exactly, two-first, two-second, eight-first, eight-second}
 use Rattle.demands.proofs.Ordering.{less-exactly, greater-exactly}
 use Rattle.demands.proofs.Hits.{match-exactly, none-exactly, match-empty, run-same, run-covers, run-least}
@@ -84,51 +84,27 @@ pub first-applies : (checks : List (Option Refusal)) (x : Refusal) → (first ch
 first-applies = first-exactly
 
 -- a table's refusal is the first of 3, 4, 5, 6, 7 that applies
-pub table-first : (es pool : List ℕ) (x : Refusal) → (tableRefusal es pool ≡ some x) ↔ FirstApplies (tableChecks es pool) x
+pub table-first : (t : Table) (x : Refusal) → (tableRefusal t ≡ some x) ↔ FirstApplies (tableChecks t) x
 unfolding tableRefusal formRefusal
-table-first es pool x =
-    let seven = refusedAt 7 (lowest (faultyLevel es pool) (entryCount es)) in
-    rw (sym (first-append (formChecks es pool) (seven ∷ []))) (first-applies (tableChecks es pool) x)
+table-first t x =
+    let seven = refusedAt 7 (lowest (faultyLevel t) (entryCount (t .entries))) in
+    rw (sym (first-append (formChecks t) (seven ∷ []))) (first-applies (tableChecks t) x)
 
--- that of preparing a text is the first of 1, 2, 3 to 7, 8
-pub prepare-first : (k : ℕ) (text es pool buffer : List ℕ) (x : Refusal)
-    → (prepareRefusal k text es pool buffer ≡ some x) ↔ FirstApplies (prepareChecks k text es pool buffer) x
-unfolding callRefusal
-prepare-first k text es pool buffer x =
-    simp orElse-none (simp orElse-none at (first-applies (prepareChecks k text es pool buffer) x))
-
--- that of a comparing call is the first of 1, 2 and 2, 3 to 7, 8 and 8. (That of a line is written as such a row: `lineRefusal`.)
-pub compare-first : (k : ℕ) (s t es pool sBuffer tBuffer : List ℕ) (x : Refusal)
-    → (compareRefusal k s t es pool sBuffer tBuffer ≡ some x) ↔ FirstApplies (compareChecks k s t es pool sBuffer tBuffer) x
-unfolding callRefusal
-compare-first k s t es pool sBuffer tBuffer x =
-    simp (orElse-none, orElse-assoc) (simp orElse-none at (first-applies (compareChecks k s t es pool sBuffer tBuffer) x))
+-- that of a call on texts is the first of 1; 2 of each text; 3 to 7; 8 of each key. (That of a line is written as such a row:
+-- `lineRefusal`.)
+pub call-first : (c : Call) (x : Refusal) → (callRefusal c ≡ some x) ↔ FirstApplies (callChecks c) x
+call-first c x = rw (sym (first-callChecks c)) (first-applies (callChecks c) x)
 
 -- `check_table` refuses exactly as document 01 says
-pub check-refused : (es pool : List ℕ) {r : TableCheck} → checkOutcome r ≡ tableAnswer es pool
-    → (x : Refusal) → (r ≡ TableRefused x) ↔ (tableRefusal es pool ≡ some x)
-check-refused es pool {r} h = refused-exactly checkOutcome checkOutcome-inj TableRefused (λ x. refl) r (tableRefusal es pool) [] h
+pub check-refused : (t : Table) {r : Check} → checkOutcome r ≡ tableAnswer t
+    → (x : Refusal) → (checkOutcome r ≡ refused x) ↔ (tableRefusal t ≡ some x)
+check-refused t h x = (λ e. answer-refused (tableRefusal t) [] x (sym e ∙ h), λ e. h ∙ rw e)
 
--- `prepare` does
-pub prepare-refused : {k : ℕ} {text es pool buffer after : List ℕ} {r : Preparation} → Prepares k text es pool buffer r after
-    → (x : Refusal) → (r ≡ PrepareRefused x) ↔ (prepareRefusal k text es pool buffer ≡ some x)
-prepare-refused {r} h = refused-exactly preparationOutcome preparationOutcome-inj PrepareRefused (λ x. refl) r _ _ (h .answered)
-
-module _ {k : ℕ} {s t es pool sBuffer tBuffer sAfter tAfter : List ℕ} where
-  -- `equal` does
-  pub equal-refused : {r : Equality} → Equals k s t es pool sBuffer tBuffer r sAfter tAfter
-      → (x : Refusal) → (r ≡ EqualRefused x) ↔ (compareRefusal k s t es pool sBuffer tBuffer ≡ some x)
-  equal-refused {r} h = refused-exactly equalityOutcome equalityOutcome-inj EqualRefused (λ x. refl) r _ _ (h .answered)
-
-  -- `order` does
-  pub order-refused : {r : Ordered} → Orders k s t es pool sBuffer tBuffer r sAfter tAfter
-      → (x : Refusal) → (r ≡ OrderRefused x) ↔ (compareRefusal k s t es pool sBuffer tBuffer ≡ some x)
-  order-refused {r} h = refused-exactly orderOutcome orderOutcome-inj OrderRefused (λ x. refl) r _ _ (h .answered)
-
-  -- `substring` does
-  pub substring-refused : {r : Sought} → Seeks k s t es pool sBuffer tBuffer r sAfter tAfter
-      → (x : Refusal) → (r ≡ SoughtRefused x) ↔ (compareRefusal k s t es pool sBuffer tBuffer ≡ some x)
-  substring-refused {r} h = refused-exactly substringOutcome substringOutcome-inj SoughtRefused (λ x. refl) r _ _ (h .answered)
+-- and so does a call on texts: `prepare`, `equal`, `order` and `substring`
+pub call-refused : {R : Type 0} {outcome : R → Outcome} {values : Call → Option (List ℕ)} {c : Call} {r : R} {after : List (List ℕ)}
+    → Called outcome values c r after
+    → (x : Refusal) → (outcome r ≡ refused x) ↔ (callRefusal c ≡ some x)
+call-refused h x = (answered-refused h x, λ e. let told = rw e at (h .answered) in cc)
 
 -- `add_line` does, and gives back the state that came in
 pub line-refused : {b : Built} {line es pool : List ℕ} {r : Line} → Added b line r es pool
@@ -139,57 +115,42 @@ line-refused {b} {line} {r} h x = (
       (h .state ∙ ap (λ (c : Built). c .state) (addLine-refused b line x e)),
 )
 
--- three of the numbers in words, of a call on texts, one or two, each with its buffer
-module _ (k : ℕ) (es pool : List ℕ) where
-  -- 1 exactly when the collation is not 1, 2, 3
-  pub number-1 : (ls : List Lent) → (callRefusal k ls es pool ≡ some (refusal 1 0 0)) ↔ (Collation k → ⊥)
-  number-1 = one-exactly k es pool
+-- three of the numbers in words, of a call on texts, one or two, each with its buffer: 1 exactly when the collation is not 1, 2, 3
+pub number-1 : (k : ℕ) (t : Table) (ls : List Lent)
+    → (callRefusal (call (collationOf k) t ls) ≡ some (refusal 1 0 0)) ↔ (CollationNumber k → ⊥)
+number-1 = one-exactly
 
+module _ (k : Collation) (t : Table) where
   -- else 2 at place 1, with its length, exactly when the first text is over 4,096 octets
-  pub number-2-first : Collation k → (l : Lent) (ls : List Lent)
-      → (callRefusal k (l ∷ ls) es pool ≡ some (refusal 2 1 (length (l .text)))) ↔ (4096 < length (l .text))
-  number-2-first = two-first k es pool
+  pub number-2-first : (l : Lent) (ls : List Lent)
+      → (callRefusal (call (some k) t (l ∷ ls)) ≡ some (refusal 2 1 (length (l .text)))) ↔ (4096 < length (l .text))
+  number-2-first = two-first k t
 
   -- else 2 at place 2 exactly when the second is
-  pub number-2-second : Collation k → (l n : Lent) → length (l .text) ≤ 4096
-      → (callRefusal k (l ∷ n ∷ []) es pool ≡ some (refusal 2 2 (length (n .text)))) ↔ (4096 < length (n .text))
-  number-2-second = two-second k es pool
+  pub number-2-second : (l n : Lent) → length (l .text) ≤ 4096
+      → (callRefusal (call (some k) t (l ∷ n ∷ [])) ≡ some (refusal 2 2 (length (n .text)))) ↔ (4096 < length (n .text))
+  number-2-second = two-second k t
 
   -- where none of 1 to 7 applies, 8 at place 1 exactly when the first key belongs in its buffer and is longer, with that length
-  pub number-8-first : (l : Lent) (ls : List Lent) → oneToSeven k (l ∷ ls) es pool ≡ none
-      → let n = roomFor (prepared k (mappingOf es pool) (l .text)) in
-      (callRefusal k (l ∷ ls) es pool ≡ some (refusal 8 1 n)) ↔ (l .room < n)
-  number-8-first = eight-first k es pool
+  pub number-8-first : (l : Lent) (ls : List Lent) → readyRefusal (call (some k) t (l ∷ ls)) ≡ none
+      → let n = roomFor (prepared k (mappingT t) (l .text)) in
+      (callRefusal (call (some k) t (l ∷ ls)) ≡ some (refusal 8 1 n)) ↔ (length (l .buffer) < n)
+  number-8-first = eight-first k t
 
   -- else 8 at place 2 exactly when the second does and is
-  pub number-8-second : (l o : Lent) → oneToSeven k (l ∷ o ∷ []) es pool ≡ none
-      → roomFor (prepared k (mappingOf es pool) (l .text)) ≤ l .room
-      → let n = roomFor (prepared k (mappingOf es pool) (o .text)) in
-      (callRefusal k (l ∷ o ∷ []) es pool ≡ some (refusal 8 2 n)) ↔ (o .room < n)
-  number-8-second = eight-second k es pool
+  pub number-8-second : (l o : Lent) → readyRefusal (call (some k) t (l ∷ o ∷ [])) ≡ none
+      → roomFor (prepared k (mappingT t) (l .text)) ≤ length (l .buffer)
+      → let n = roomFor (prepared k (mappingT t) (o .text)) in
+      (callRefusal (call (some k) t (l ∷ o ∷ [])) ≡ some (refusal 8 2 n)) ↔ (length (o .buffer) < n)
+  number-8-second = eight-second k t
 
 -- ---- "and then no lent buffer changes."
 
--- a refused `prepare` leaves the key buffer. (`check_table` is lent nothing that it could change.)
-pub prepare-kept : {k : ℕ} {text es pool buffer after : List ℕ} {r : Preparation} → Prepares k text es pool buffer r after
-    → (x : Refusal) → r ≡ PrepareRefused x → after ≡ buffer
-prepare-kept h x e = rw (prepare-refused h x .0 e) at (h .left)
-
-module _ {k : ℕ} {s t es pool sBuffer tBuffer sAfter tAfter : List ℕ} where
-  -- a refused `equal` leaves both
-  pub equal-kept : {r : Equality} → Equals k s t es pool sBuffer tBuffer r sAfter tAfter
-      → (x : Refusal) → r ≡ EqualRefused x → (sAfter ≡ sBuffer) × (tAfter ≡ tBuffer)
-  equal-kept h x e = let o = equal-refused h x .0 e in (rw o at (h .firstLeft), rw o at (h .secondLeft))
-
-  -- a refused `order` does
-  pub order-kept : {r : Ordered} → Orders k s t es pool sBuffer tBuffer r sAfter tAfter
-      → (x : Refusal) → r ≡ OrderRefused x → (sAfter ≡ sBuffer) × (tAfter ≡ tBuffer)
-  order-kept h x e = let o = order-refused h x .0 e in (rw o at (h .firstLeft), rw o at (h .secondLeft))
-
-  -- a refused `substring` does
-  pub substring-kept : {r : Sought} → Seeks k s t es pool sBuffer tBuffer r sAfter tAfter
-      → (x : Refusal) → r ≡ SoughtRefused x → (sAfter ≡ sBuffer) × (tAfter ≡ tBuffer)
-  substring-kept h x e = let o = substring-refused h x .0 e in (rw o at (h .firstLeft), rw o at (h .secondLeft))
+-- a refused call on texts leaves every key buffer. (`check_table` is lent nothing that it could change.)
+pub call-kept : {R : Type 0} {outcome : R → Outcome} {values : Call → Option (List ℕ)} {c : Call} {r : R} {after : List (List ℕ)}
+    → Called outcome values c r after
+    → (x : Refusal) → outcome r ≡ refused x → after ≡ map (λ l. l .buffer) (c .lents)
+call-kept h x e = rw (call-refused h x .0 e) at (h .left)
 
 -- a refused `add_line` leaves the state, the entries and the pool
 pub line-kept : {b : Built} {line es pool : List ℕ} {r : Line} → Added b line r es pool
@@ -204,124 +165,129 @@ line-kept {b} {line} h x st e =
 -- ---- "Keys, equality, order and substring are RFC 4790's and RFC 5051's over the lent table."
 
 -- keys: what is shown of a prepared text is its key
-pub prepare-key : {k : ℕ} {text es pool buffer after : List ℕ} {r : Preparation} → Prepares k text es pool buffer r after
-    → (s : Summary) → r ≡ Prepared s → shownKey r text after ≡ keyOver k es pool text
-prepare-key h = shows h
+pub prepare-key : {k : Collation} {t : Table} {l : Lent} {r : Preparation} {after : List ℕ} → Prepares (call (some k) t (l ∷ [])) r after
+    → (s : Summary) → r ≡ Prepared s → shownKey r (l .text) after ≡ keyOf k (mappingT t) (l .text)
+prepare-key h s e = shows h e
 
 -- i;octet: the text
-pub key-octet : (m : Mapping) (t : List ℕ) → keyOf 1 m t ≡ t
-unfolding prepared
+pub key-octet : (m : Mapping) (t : List ℕ) → keyOf Octet m t ≡ t
 key-octet m t = refl
 
 -- i;ascii-casemap: the text with small letters a to z raised
-pub key-ascii : (m : Mapping) (t : List ℕ) → keyOf 2 m t ≡ map upper t
-unfolding prepared
+pub key-ascii : (m : Mapping) (t : List ℕ) → keyOf AsciiCasemap m t ≡ map upper t
 key-ascii m t = refl
 
 -- i;unicode-casemap: the key of the published steps, of a text that is UTF-8
-pub key-unicode : (m : Mapping) (t : List ℕ) (chs : List Character) → characters t ≡ some chs → keyOf 3 m t ≡ stepsKey m chs
+pub key-unicode : (m : Mapping) (t : List ℕ) (chs : List Character) → characters t ≡ some chs → keyOf UnicodeCasemap m t ≡ stepsKey m chs
 key-unicode = key-valid
 
 -- and the text itself where it is not
-pub key-broken : (m : Mapping) (t : List ℕ) → characters t ≡ none → keyOf 3 m t ≡ t
+pub key-broken : (m : Mapping) (t : List ℕ) → characters t ≡ none → keyOf UnicodeCasemap m t ≡ t
 key-broken = key-invalid
 
-module _ {k : ℕ} {es pool s t : List ℕ} where
+-- the texts of calls of `equal` and `order`, each prepared by itself, whatever the other is
+module _ {p q : PreparedText} where
   -- equality is equality of keys
-  pub equal-keys : {r : Equality} → EqualSays k es pool s t r
-      → (r ≡ Match) ↔ (keyOver k es pool s ≡ keyOver k es pool t)
+  pub equal-keys : {r : Equality} → EqualSays p q r → (r ≡ Match) ↔ (p .key ≡ q .key)
   equal-keys = matches-tie
 
   -- order compares keys: less is to precede, octet by octet
-  pub order-less : {r : Ordered} → OrderSays k es pool s t r
-      → (r ≡ Less) ↔ Precedes (keyOver k es pool s) (keyOver k es pool t)
+  pub order-less : {r : Ordered} → OrderSays p q r → (r ≡ Less) ↔ Precedes (p .key) (q .key)
   order-less = less-exactly
 
   -- and greater where the second key precedes the first
-  pub order-greater : {r : Ordered} → OrderSays k es pool s t r
-      → (r ≡ Greater) ↔ Precedes (keyOver k es pool t) (keyOver k es pool s)
+  pub order-greater : {r : Ordered} → OrderSays p q r → (r ≡ Greater) ↔ Precedes (q .key) (p .key)
   order-greater = greater-exactly
 
   -- its ties are exactly the texts with one key
-  pub order-ties : {r : Ordered} → OrderSays k es pool s t r
-      → (r ≡ Equal) ↔ (keyOver k es pool s ≡ keyOver k es pool t)
+  pub order-ties : {r : Ordered} → OrderSays p q r → (r ≡ Equal) ↔ (p .key ≡ q .key)
   order-ties = answers-tie
 
   -- which are exactly the equal pairs
-  pub order-equal : {r : Ordered} {q : Equality} → OrderSays k es pool s t r → EqualSays k es pool s t q
-      → (r ≡ Equal) ↔ (q ≡ Match)
+  pub order-equal : {r : Ordered} {x : Equality} → OrderSays p q r → EqualSays p q x → (r ≡ Equal) ↔ (x ≡ Match)
   order-equal = answers-match
 
   -- it turns round with the texts
-  pub order-turned : {r q : Ordered} → OrderSays k es pool s t r → OrderSays k es pool t s q → q ≡ flipped r
+  pub order-turned : {r x : Ordered} → OrderSays p q r → OrderSays q p x → x ≡ flipped r
   order-turned = answers-flip
 
   -- it is total
-  pub order-total : {r q : Ordered} → OrderSays k es pool s t r → OrderSays k es pool t s q
-      → (r ≡ Greater → ⊥) ⊎ (q ≡ Greater → ⊥)
+  pub order-total : {r x : Ordered} → OrderSays p q r → OrderSays q p x → (r ≡ Greater → ⊥) ⊎ (x ≡ Greater → ⊥)
   order-total = answers-total
 
 -- it is reflexive
-pub order-reflexive : {k : ℕ} {es pool s : List ℕ} {r : Ordered} → OrderSays k es pool s s r → r ≡ Equal
+pub order-reflexive : {p : PreparedText} {r : Ordered} → OrderSays p p r → r ≡ Equal
 order-reflexive = answers-refl
 
 -- and transitive
-pub order-transitive : {k : ℕ} {es pool s t u : List ℕ} {r q p : Ordered}
-    → OrderSays k es pool s t r → OrderSays k es pool t u q → OrderSays k es pool s u p
-    → (r ≡ Greater → ⊥) → (q ≡ Greater → ⊥) → p ≡ Greater → ⊥
+pub order-transitive : {p q s : PreparedText} {r x y : Ordered} → OrderSays p q r → OrderSays q s x → OrderSays p s y
+    → (r ≡ Greater → ⊥) → (x ≡ Greater → ⊥) → y ≡ Greater → ⊥
 order-transitive = answers-trans
 
-module _ {es pool s t : List ℕ} (apart : there (characters s) ≡ there (characters t) → ⊥) where
+-- of a call of `equal` or `order` on two texts these are the texts prepared, where it is not refused
+pub equal-says : {k : Collation} {t : Table} {l m : Lent} {r : Equality} {after : List (List ℕ)}
+    → Called equalityOutcome equalityValues (call (some k) t (l ∷ m ∷ [])) r after → isGiven (equalityOutcome r) ≡ true
+    → EqualSays (prepared k (mappingT t) (l .text)) (prepared k (mappingT t) (m .text)) r
+equal-says = says
+
+pub order-says : {k : Collation} {t : Table} {l m : Lent} {r : Ordered} {after : List (List ℕ)}
+    → Called orderOutcome orderValues (call (some k) t (l ∷ m ∷ [])) r after → isGiven (orderOutcome r) ≡ true
+    → OrderSays (prepared k (mappingT t) (l .text)) (prepared k (mappingT t) (m .text)) r
+order-says = says
+
+module _ {t : Table} {l m : Lent} {after : List (List ℕ)} (apart : there (characters (l .text)) ≡ there (characters (m .text)) → ⊥) where
   -- under collation 3 a valid and an invalid text never match
-  pub never-match : {r : Equality} → EqualSays 3 es pool s t r → r ≡ Match → ⊥
-  never-match c = matches-valid c apart
+  pub never-match : {r : Equality} → Called equalityOutcome equalityValues (call (some UnicodeCasemap) t (l ∷ m ∷ [])) r after → r ≡ Match → ⊥
+  never-match h e = apart (matches-valid (rw e at h))
 
   -- nor tie
-  pub never-tie : {r : Ordered} → OrderSays 3 es pool s t r → r ≡ Equal → ⊥
-  never-tie c = answers-valid c apart
+  pub never-tie : {r : Ordered} → Called orderOutcome orderValues (call (some UnicodeCasemap) t (l ∷ m ∷ [])) r after → r ≡ Equal → ⊥
+  never-tie h e = apart (answers-valid (rw e at h))
 
--- substring, where it is not refused
-module _ {k : ℕ} {s t es pool sBuffer tBuffer sAfter tAfter : List ℕ} {r : Sought}
-    (h : Seeks k s t es pool sBuffer tBuffer r sAfter tAfter) (answers : Given (substringOutcome r)) where
-  told : substringOutcome r ≡ gives (substringValues k (mappingOf es pool) s t)
-  told =
-      given-values (substringOutcome r) (compareRefusal k s t es pool sBuffer tBuffer) (substringValues k (mappingOf es pool) s t)
-      (h .answered) answers
+-- substring, where it is not refused: the text s of l sought in the text u of n
+module _ {k : Collation} {t : Table} {l n : Lent} {r : Sought} {after : List (List ℕ)}
+    (h : Called substringOutcome soughtValues (call (some k) t (l ∷ n ∷ [])) r after) (answers : Given (substringOutcome r)) where
+  told : substringOutcome r ≡ gives (substringValues k (mappingT t) (l .text) (n .text))
+  told = go (substringOutcome r) refl answers
+    where
+      go : (o : Outcome) → substringOutcome r ≡ o → Given o → o ≡ gives (substringValues k (mappingT t) (l .text) (n .text))
+      go (refused x) e g = absurd g
+      go (gives vs) e g = let is = answered-gives h vs e .1 in cc
 
   -- there is no match exactly when the first text's key occurs nowhere in the second's
-  pub substring-none : 0 < length s
-      → (r ≡ NoMatch) ↔ ((i : ℕ) → Stands (keyOver k es pool s) (keyOver k es pool t) i → ⊥)
-  substring-none text = none-exactly k (mappingOf es pool) s t r text told
+  pub substring-none : 0 < length (l .text)
+      → (r ≡ NoMatch) ↔ ((i : ℕ) → OccursAt (keyOf k (mappingT t) (l .text)) (keyOf k (mappingT t) (n .text)) i → ⊥)
+  substring-none text = none-exactly k (mappingT t) (l .text) (n .text) r text told
 
   -- ---- "A hit reports the first occurrence in the key and the smallest run of whole characters that covers it."
 
   -- a hit at these four positions is reported exactly when the first occurrence, with its run, is there
-  pub substring-hit : 0 < length s → (a b : KeyPosition) (c d : TextPosition)
-      → (r ≡ Found a b c d) ↔ Hit k (mappingOf es pool) s t (a .0) (b .0) (c .0) (d .0)
-  substring-hit text = match-exactly k (mappingOf es pool) s t r text told
+  pub substring-hit : 0 < length (l .text) → (a b : KeyPosition) (c d : TextPosition)
+      → (r ≡ Found a b c d) ↔ Hit k (mappingT t) (l .text) (n .text) (a .0) (b .0) (c .0) (d .0)
+  substring-hit text = match-exactly k (mappingT t) (l .text) (n .text) r text told
 
   -- both pairs are the same under collations 1 and 2, and under 3 where the second text is invalid
-  pub substring-same : 0 < length s → (a b : KeyPosition) (c d : TextPosition) → r ≡ Found a b c d
-      → (k ≡ 3 → characters t ≡ none) → span (c .0) (d .0) ≡ span (a .0) (b .0)
+  pub substring-same : 0 < length (l .text) → (a b : KeyPosition) (c d : TextPosition) → r ≡ Found a b c d
+      → (k ≡ UnicodeCasemap → characters (n .text) ≡ none) → span (c .0) (d .0) ≡ span (a .0) (b .0)
   substring-same text a b c d e = run-same (substring-hit text a b c d .0 e)
 
 -- an empty first text is found at 0, 0, 0, 0
-pub substring-empty : {k : ℕ} {t es pool sBuffer tBuffer sAfter tAfter : List ℕ} {r : Sought}
-    → Seeks k [] t es pool sBuffer tBuffer r sAfter tAfter → Given (substringOutcome r)
+pub substring-empty : {k : Collation} {t : Table} {buffer : List ℕ} {n : Lent} {r : Sought} {after : List (List ℕ)}
+    → Called substringOutcome soughtValues (call (some k) t (lent [] buffer ∷ n ∷ [])) r after → Given (substringOutcome r)
     → r ≡ Found (record { 0 = 0 }) (record { 0 = 0 }) (record { 0 = 0 }) (record { 0 = 0 })
-substring-empty {k} {t} {es} {pool} {r} h answers = match-empty k (mappingOf es pool) t r (told h answers)
+substring-empty {k} {t} {n} {r} h answers = match-empty k (mappingT t) (n .text) r (told h answers)
 
 -- under collation 3, in a valid text
-module _ {s t es pool sBuffer tBuffer sAfter tAfter : List ℕ} {r : Sought}
-    (h : Seeks 3 s t es pool sBuffer tBuffer r sAfter tAfter) (answers : Given (substringOutcome r))
-    (text : 0 < length s) {a b : KeyPosition} {c d : TextPosition} (e : r ≡ Found a b c d)
-    {chs : List Character} (valid : characters t ≡ some chs) where
+module _ {t : Table} {l n : Lent} {r : Sought} {after : List (List ℕ)}
+    (h : Called substringOutcome soughtValues (call (some UnicodeCasemap) t (l ∷ n ∷ [])) r after) (answers : Given (substringOutcome r))
+    (text : 0 < length (l .text)) {a b : KeyPosition} {c d : TextPosition} (e : r ≡ Found a b c d)
+    {chs : List Character} (valid : characters (n .text) ≡ some chs) where
   -- the run is one of whole characters, and covers the occurrence
-  pub substring-covers : Covers (mappingOf es pool) chs (a .0) (b .0) (span (c .0) (d .0))
+  pub substring-covers : Covers (mappingT t) chs (a .0) (b .0) (span (c .0) (d .0))
   substring-covers = run-covers (substring-hit h answers text a b c d .0 e) text valid
 
   -- it is the smallest: every run of whole characters that covers the occurrence contains it
-  pub substring-smallest : (run : Span) → Covers (mappingOf es pool) chs (a .0) (b .0) run
+  pub substring-smallest : (run : Span) → Covers (mappingT t) chs (a .0) (b .0) run
       → (run .start ≤ c .0) × (d .0 ≤ run .end)
   substring-smallest = run-least (substring-hit h answers text a b c d .0 e) text valid
 
@@ -350,50 +316,50 @@ module _ {es pool : List ℕ} {lines : List (List ℕ)} {b : Built} (g : Grows (
 
 -- ================================================================ Demand 3
 
-module _ (es pool : List ℕ) {r : TableCheck} (h : checkOutcome r ≡ tableAnswer es pool) where
+module _ (t : Table) {r : Check} (h : checkOutcome r ≡ tableAnswer t) where
   -- ---- "A table is accepted exactly when it has document 01's form and every code point in it unfolds within 8 levels into at
   -- most 32 code points."
 
-  -- `check_table` answers Accepted of exactly the tables that are so
-  pub check-accepts : (r ≡ Accepted) ↔ Sound es pool
+  -- `check_table` answers Passed of exactly the tables that are so
+  pub check-accepts : (r ≡ Passed) ↔ Sound t
   check-accepts = (
-    λ e. accepted-exactly es pool .0 (passes e),
-    λ sound. checkOutcome-inj r Accepted (rw (accepted-exactly es pool .1 sound) at h),
+    λ e. accepted-exactly t .0 (passes e),
+    λ sound. checkOutcome-inj r Passed (rw (accepted-exactly t .1 sound) at h),
   )
     where
-      passes : r ≡ Accepted → tableRefusal es pool ≡ none
-      passes e = answer-given (tableRefusal es pool) [] [] (rw e at h)
+      passes : r ≡ Passed → tableRefusal t ≡ none
+      passes e = answer-given (tableRefusal t) [] [] (rw e at h)
 
   -- and in an accepted table every code point at all unfolds so, parts and titlecases too
-  pub check-every : r ≡ Accepted → (c : ℕ) → UnfoldsWell (mappingOf es pool) c
-  check-every e = accepted-level es pool (accepted-exactly es pool .1 (check-accepts .0 e))
+  pub check-every : r ≡ Passed → (c : ℕ) → UnfoldsWell (mappingOf t) c
+  check-every e = accepted-level t (accepted-exactly t .1 (check-accepts .0 e))
 
   -- ---- "Over every accepted table and every valid text of n code points the published steps make at most 258 n lookups and a
   -- key of at most 128 n octets;"
 
   -- of any characters, so of every valid text's
-  pub check-bounds : r ≡ Accepted → (chs : List Character) → Bounds (mappingOf es pool) chs
+  pub check-bounds : r ≡ Passed → (chs : List Character) → Bounds (mappingOf t) chs
   check-bounds e chs =
-      let ok = accepted-exactly es pool .1 (check-accepts .0 e) in
-      record { lookups = accepted-lookups es pool ok chs; octets = accepted-key es pool ok chs }
+      let ok = accepted-exactly t .1 (check-accepts .0 e) in
+      record { lookups = accepted-lookups t ok chs; octets = accepted-key t ok chs }
 
-module _ {text es pool buffer after : List ℕ} {r : Preparation} (h : Prepares 3 text es pool buffer r after)
-    {chs : List Character} (valid : characters text ≡ some chs) where
+module _ {t : Table} {l : Lent} {r : Preparation} {after : List ℕ} (h : Prepares (call (some UnicodeCasemap) t (l ∷ [])) r after)
+    {chs : List Character} (valid : characters (l .text) ≡ some chs) where
   -- ---- "every preparation gives exactly that key and count;"
 
   -- a valid text that was prepared: its count, its key's length and the key that is shown are those of the published steps
-  pub prepare-exact : (s : Summary) → r ≡ Prepared s → Exact (mappingOf es pool) chs s (shownKey r text after)
+  pub prepare-exact : (s : Summary) → r ≡ Prepared s → Exact (mappingT t) chs s (shownKey r (l .text) after)
   prepare-exact = exact h valid
 
   -- and so within the bounds, for the table was accepted
   pub prepare-bounds : (s : Summary) → r ≡ Prepared s → (s .lookups ≤ 258 * length chs) × (s .«key_length» ≤ 128 * length chs)
   prepare-bounds s e =
-      let ok = table-accepted h refl s e in
+      let ok = table-accepted h e in
       let is = prepare-exact s e in
-      (omega (arith, is .count, accepted-lookups es pool ok chs), omega (arith, is .size, accepted-key es pool ok chs))
+      (omega (arith, is .count, accepted-lookups t ok chs), omega (arith, is .size, accepted-key t ok chs))
 
   -- ---- "one refused for its buffer names that key's length."
 
   -- a refusal with number 8 has place 1 and that length as its detail, and the buffer is shorter
-  pub prepare-short : (x : Refusal) → r ≡ PrepareRefused x → x .number ≡ 8 → Short (mappingOf es pool) chs buffer x
+  pub prepare-short : (x : Refusal) → r ≡ PrepareRefused x → x .number ≡ 8 → Short (mappingT t) chs (l .buffer) x
   prepare-short = short h valid

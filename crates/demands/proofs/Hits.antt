@@ -3,7 +3,6 @@
 -- Assumes nothing.
 use mathlib.Core.Path.{_≡_, refl, sym, ap, _∙_}
 use Prim.Native.Nat.{ℕ, _+_, _≤_, _<_}
-use native.Mathlib.Decide.{ℕ-discrete}
 use native.Mathlib.Omega.{arith}
 use mathlib.Core.Logic.{_↔_}
 use mathlib.Core.Option.{Option, none, some}
@@ -14,20 +13,21 @@ use Rattle.terms.specs.declared.KeyPosition.{KeyPosition}
 use Rattle.terms.specs.declared.TextPosition.{TextPosition}
 use Rattle.table.specs.Mapping.{Mapping}
 use Rattle.utf8.specs.Utf8.{Character, characters}
-use Rattle.prepare.specs.Keys.{keyOf}
+use Rattle.terms.specs.declared.Collation.{Collation}
+use Rattle.terms.specs.declared.Collation.the-variants.{Octet, AsciiCasemap, UnicodeCasemap}
+use Rattle.keys.specs.Keys.{keyOf}
 use Rattle.occurrence.specs.Occurrence.{occurrence}
 use Rattle.occurrence.proofs.Laws.{occurrence-some, occurrence-none, occurrence-is, occurrence-nowhere}
 use Rattle.search.specs.Covering.{Span, span}
 use Rattle.search.specs.Substring.{substringOutcome, runIn, textRun, foundValues, substringValues}
 use Rattle.search.specs.declared.Sought.{Sought}
 use Rattle.search.specs.declared.Sought.the-variants.{Match, NoMatch}
-use Rattle.search.proofs.Answers.{substringOutcome-inj}
-use Rattle.search.proofs.Seeking.{textRun-unicode, textRun-other}
+use Rattle.search.proofs.Injective.{substringOutcome-inj}
 use Rattle.search.proofs.Cover.{Covers, hit-covers, hit-least}
-use Rattle.demands.specs.Demands.{Stands, Hit}
+use Rattle.demands.specs.Demands.{OccursAt, Hit}
 
 -- what is told of a text that is not empty
-values-some : (k : ℕ) (m : Mapping) (s t : List ℕ) → 0 < length s
+values-some : (k : Collation) (m : Mapping) (s t : List ℕ) → 0 < length s
     → substringValues k m s t ≡ foundValues k m t (length (keyOf k m s)) (occurrence (keyOf k m s) (keyOf k m t))
 unfolding substringValues
 values-some k m [] t h = absurd (omega arith)
@@ -37,7 +37,7 @@ values-some k m (x ∷ s) t h = refl
 span-same : (a b : Span) → a .start ≡ b .start → a .end ≡ b .end → a ≡ b
 span-same a b p q = λ i. record { start = p i; end = q i }
 
-module _ (k : ℕ) (m : Mapping) (s t : List ℕ) (r : Sought) (text : 0 < length s)
+module _ (k : Collation) (m : Mapping) (s t : List ℕ) (r : Sought) (text : 0 < length s)
     (e : substringOutcome r ≡ gives (substringValues k m s t)) where
   abbrev needle : List ℕ
   needle = keyOf k m s
@@ -63,7 +63,7 @@ module _ (k : ℕ) (m : Mapping) (s t : List ℕ) (r : Sought) (text : 0 < lengt
           let start : c .0 ≡ textRun k m t part .start = cc in
           let end : d .0 ≡ textRun k m t part .end = cc in
           record {
-            stands = rw from at (found .0);
+            occurs = rw from at (found .0);
             nowhere-lower = rw from at (found .1);
             upto = sym to ∙ rw from;
             run =
@@ -74,7 +74,7 @@ module _ (k : ℕ) (m : Mapping) (s t : List ℕ) (r : Sought) (text : 0 < lengt
   -- and the first occurrence is that hit
   is-hit : (a b : KeyPosition) (c d : TextPosition) → Hit k m s t (a .0) (b .0) (c .0) (d .0) → r ≡ Match a b c d
   is-hit a b c d h =
-      let found = occurrence-is needle hay (a .0) (h .stands) (h .nowhere-lower) in
+      let found = occurrence-is needle hay (a .0) (h .occurs) (h .nowhere-lower) in
       let same = rw (sym (h .upto)) at (told (some (a .0)) found) in
       let start : c .0 ≡ textRun k m t (span (a .0) (b .0)) .start = ap (λ (x : Span). x .start) (h .run) in
       let end : d .0 ≡ textRun k m t (span (a .0) (b .0)) .end = ap (λ (x : Span). x .end) (h .run) in
@@ -85,41 +85,40 @@ module _ (k : ℕ) (m : Mapping) (s t : List ℕ) (r : Sought) (text : 0 < lengt
   match-exactly a b c d = (hit-is a b c d, is-hit a b c d)
 
   -- there is no match where the key occurs nowhere
-  pub none-exactly : (r ≡ NoMatch) ↔ ((i : ℕ) → Stands (keyOf k m s) (keyOf k m t) i → ⊥)
+  pub none-exactly : (r ≡ NoMatch) ↔ ((i : ℕ) → OccursAt (keyOf k m s) (keyOf k m t) i → ⊥)
   none-exactly = (
     λ q. go q (occurrence needle hay) refl,
     λ nowhere. substringOutcome-inj r NoMatch (told none (occurrence-nowhere needle hay nowhere)),
   )
     where
-      go : r ≡ NoMatch → (o : Option ℕ) → occurrence needle hay ≡ o → (i : ℕ) → Stands needle hay i → ⊥
+      go : r ≡ NoMatch → (o : Option ℕ) → occurrence needle hay ≡ o → (i : ℕ) → OccursAt needle hay i → ⊥
       go q none f = occurrence-none needle hay f
       go q (some i) f = let z : _≡_ {A = ℕ} 1 2 = cc (rw q at (told (some i) f)) in absurd (omega arith)
 
 -- an empty text is found at 0, 0, 0, 0
-pub match-empty : (k : ℕ) (m : Mapping) (t : List ℕ) (r : Sought) → substringOutcome r ≡ gives (substringValues k m [] t)
+pub match-empty : (k : Collation) (m : Mapping) (t : List ℕ) (r : Sought) → substringOutcome r ≡ gives (substringValues k m [] t)
     → r ≡ Match (record { 0 = 0 }) (record { 0 = 0 }) (record { 0 = 0 }) (record { 0 = 0 })
 unfolding substringValues
 match-empty k m t r e = substringOutcome-inj r _ e
 
 -- ---- the run
 
-module _ {k : ℕ} {m : Mapping} {s t : List ℕ} {a b c d : ℕ} (h : Hit k m s t a b c d) where
+module _ {k : Collation} {m : Mapping} {s t : List ℕ} {a b c d : ℕ} (h : Hit k m s t a b c d) where
   -- it is the part of the key under collations 1 and 2, and under 3 where the second text is invalid
-  pub run-same : (k ≡ 3 → characters t ≡ none) → span c d ≡ span a b
-  run-same octets = h .run ∙ sym (go (ℕ-discrete k 3))
+  pub run-same : (k ≡ UnicodeCasemap → characters t ≡ none) → span c d ≡ span a b
+  run-same octets = h .run ∙ go k octets
     where
-      go : Dec (k ≡ 3) → span a b ≡ textRun k m t (span a b)
-      go (yes is) =
-          textRun-unicode k m t (span a b) (span a b) is
-          (ap (λ (o : Option (List Character)). runIn m o (span a b)) (sym (octets is)))
-      go (no other) = textRun-other k m t (span a b) other
+      go : (j : Collation) → (j ≡ UnicodeCasemap → characters t ≡ none) → textRun j m t (span a b) ≡ span a b
+      go Octet o = refl
+      go AsciiCasemap o = refl
+      go UnicodeCasemap o = ap (λ (x : Option (List Character)). runIn m x (span a b)) (o refl)
 
-module _ {m : Mapping} {s t : List ℕ} {a b c d : ℕ} (h : Hit 3 m s t a b c d)
+module _ {m : Mapping} {s t : List ℕ} {a b c d : ℕ} (h : Hit UnicodeCasemap m s t a b c d)
     (text : 0 < length s) {chs : List Character} (valid : characters t ≡ some chs) where
-  found : occurrence (keyOf 3 m s) (keyOf 3 m t) ≡ some a
-  found = occurrence-is (keyOf 3 m s) (keyOf 3 m t) a (h .stands) (h .nowhere-lower)
+  found : occurrence (keyOf UnicodeCasemap m s) (keyOf UnicodeCasemap m t) ≡ some a
+  found = occurrence-is (keyOf UnicodeCasemap m s) (keyOf UnicodeCasemap m t) a (h .occurs) (h .nowhere-lower)
 
-  run-is : span c d ≡ textRun 3 m t (span a (a + length (keyOf 3 m s)))
+  run-is : span c d ≡ textRun UnicodeCasemap m t (span a (a + length (keyOf UnicodeCasemap m s)))
   run-is = rw (h .upto) at (h .run)
 
   -- it is a run of whole characters that covers the occurrence

@@ -4,23 +4,27 @@ use mathlib.Core.Path.{_≡_, refl, sym, _∙_}
 use Prim.Native.Nat.{ℕ, suc, _≤_, _<_}
 use native.Mathlib.Omega.{arith}
 use mathlib.Core.Logic.{inl, inr, _↔_}
-use mathlib.Core.Bool.{Bool, true, false, cond, not, _||_}
+use mathlib.Core.Bool.{Bool, true, false, cond, not}
 use mathlib.Core.Option.{Option, none, some}
 use mathlib.Core.List.{List, [], _∷_}
-use lib.Dec.{ltb, eqb}
+use lib.Dec.{ltb}
 use lib.ListN.{length}
 use borrow.Author.Tests.{ltb-true, lt-ltb, le-ltb, ne-eqb}
-use Rattle.terms.specs.Lists.{orElse, lowest}
+use Rattle.terms.specs.Collations.{collationOf, readsTable}
+use Rattle.terms.specs.Lists.{orElse, lowest, there}
 use Rattle.terms.specs.Refusals.{textMost, refusal, check}
+use Rattle.terms.specs.declared.Collation.{Collation}
 use Rattle.terms.specs.declared.Refusal.{Refusal}
-use Rattle.terms.proofs.Checks.{orElse-none, orElse-assoc, orElse-neither}
+use Rattle.terms.proofs.Checks.{orElse-none, orElse-assoc}
 use Rattle.terms.proofs.Tests.{none-some}
-use Rattle.table.specs.Mapping.{Mapping}
-use Rattle.table.specs.Table.{entryCount, faultySize, faultyCode, faultyNumber, entryFault, refusedAt, formRefusal, mappingOf}
+use Rattle.table.specs.Table.{entryCount, faultySize, faultyCode, faultyNumber, entryFault, refusedAt, formRefusal}
 use Rattle.decompose.specs.TableCheck.{faultyLevel, tableRefusal}
-use Rattle.prepare.specs.Keys.{prepared, roomFor}
-use Rattle.prepare.specs.Calls.{Lent, collationCheck, lengthCheck, lengthChecks, tableUnder, roomCheck, roomChecks, callRefusal}
-use Rattle.demands.specs.Demands.{Collation, oneToSeven}
+use Rattle.keys.specs.Tables.{Table, mappingT, refusalT}
+use Rattle.keys.specs.Keys.{PreparedText, prepared, roomFor}
+use Rattle.prepare.specs.Calls.{Lent, Call, call, lengths, preparedIn, collationCheck, lengthCheck, lengthChecks, tableCheck, readyRefusal, roomCheck, roomChecks, roomRefusal, callRefusal}
+use Rattle.prepare.proofs.CallRefusals.{callRefusal-ready}
+use Rattle.demands.specs.Demands.{CollationNumber}
+use Rattle.demands.proofs.Rows.{callRefusal-row}
 
 -- ---- numbers
 
@@ -43,12 +47,12 @@ numbers-else low high none d a b = b
 numbers-else low high (some y) d a b = a
 
 -- 2
-numbers-lengths : (p : ℕ) (ls : List Lent) → Numbers 2 2 (lengthChecks p ls)
+numbers-lengths : (p : ℕ) (ns : List ℕ) → Numbers 2 2 (lengthChecks p ns)
 numbers-lengths p [] = numbers-none 2 2
-numbers-lengths p (l ∷ ls) =
-    numbers-else 2 2 (lengthCheck p (length (l .text))) (lengthChecks (suc p) ls)
-    (numbers-check 2 2 (ltb textMost (length (l .text))) 2 p (length (l .text)) (omega arith) (omega arith))
-    (numbers-lengths (suc p) ls)
+numbers-lengths p (n ∷ ns) =
+    numbers-else 2 2 (lengthCheck p n) (lengthChecks (suc p) ns)
+    (numbers-check 2 2 (ltb textMost n) 2 p n (omega arith) (omega arith))
+    (numbers-lengths (suc p) ns)
 
 -- 3 to 7
 numbers-row : (size : Bool) (four five six seven : Option ℕ)
@@ -62,28 +66,29 @@ numbers-row false none none (some i) _ = numbers-some 3 7 (refusal 6 0 i) (omega
 numbers-row false none none none (some i) = numbers-some 3 7 (refusal 7 0 i) (omega arith) (omega arith)
 numbers-row false none none none none = numbers-none 3 7
 
-numbers-table : (es pool : List ℕ) → Numbers 3 7 (tableRefusal es pool)
+numbers-table : (t : Table) → Numbers 3 7 (refusalT t)
 unfolding tableRefusal formRefusal
-numbers-table es pool =
-    numbers-row (faultySize es pool) (lowest (faultyCode es) (entryCount es)) (entryFault es pool)
-    (lowest (faultyNumber pool) (length pool))
-    (lowest (faultyLevel es pool) (entryCount es))
+numbers-table t =
+    numbers-row (faultySize (t .entries) (t .pool)) (lowest (faultyCode (t .entries)) (entryCount (t .entries))) (entryFault (t .entries) (t .pool))
+    (lowest (faultyNumber (t .pool)) (length (t .pool)))
+    (lowest (faultyLevel (t .entries) (t .pool)) (entryCount (t .entries)))
 
-numbers-under : (k : ℕ) (es pool : List ℕ) → Numbers 3 7 (tableUnder k es pool)
-numbers-under k es pool = go (eqb k 3)
+numbers-under : (o : Option Collation) (t : Table) → Numbers 3 7 (tableCheck o t)
+numbers-under none t = numbers-none 3 7
+numbers-under (some k) t = go (readsTable k)
   where
-    go : (b : Bool) → Numbers 3 7 (cond b (tableRefusal es pool) none)
-    go true = numbers-table es pool
+    go : (b : Bool) → Numbers 3 7 (cond b (refusalT t) none)
+    go true = numbers-table t
     go false = numbers-none 3 7
 
 -- 8
-numbers-rooms : (k : ℕ) (m : Mapping) (p : ℕ) (ls : List Lent) → Numbers 8 8 (roomChecks k m p ls)
-numbers-rooms k m p [] = numbers-none 8 8
-numbers-rooms k m p (l ∷ ls) =
-    let key = prepared k m (l .text) in
-    numbers-else 8 8 (roomCheck p (l .room) key) (roomChecks k m (suc p) ls)
-    (numbers-check 8 8 (ltb (l .room) (roomFor key)) 8 p (roomFor key) (omega arith) (omega arith))
-    (numbers-rooms k m (suc p) ls)
+numbers-rooms : (p : ℕ) (ls : List Lent) (ps : List PreparedText) → Numbers 8 8 (roomChecks p ls ps)
+numbers-rooms p [] ps = numbers-none 8 8
+numbers-rooms p (l ∷ ls) [] = numbers-none 8 8
+numbers-rooms p (l ∷ ls) (q ∷ ps) =
+    numbers-else 8 8 (roomCheck p (length (l .buffer)) q) (roomChecks (suc p) ls ps)
+    (numbers-check 8 8 (ltb (length (l .buffer)) (roomFor q)) 8 p (roomFor q) (omega arith) (omega arith))
+    (numbers-rooms (suc p) ls ps)
 
 -- a refusal with another number than the first check gives comes from the second
 numbers-past : {low high : ℕ} {c : Option Refusal} → Numbers low high c → (d : Option Refusal) (x : Refusal)
@@ -95,37 +100,32 @@ numbers-past {c = some y} n d x other e = absurd (other (n x e .0) (n x e .1))
 numbers-wider : {low high : ℕ} {c : Option Refusal} → Numbers low high c → (a b : ℕ) → a ≤ low → high ≤ b → Numbers a b c
 numbers-wider n a b p q x e = let bounds = n x e in (omega arith, omega arith)
 
-module _ (k : ℕ) (ls : List Lent) (es pool : List ℕ) where
+module _ (c : Call) where
   -- the checks after each number
-  abbrev after-table : Option Refusal
-  after-table = orElse (roomChecks k (mappingOf es pool) 1 ls) none
-
   abbrev after-lengths : Option Refusal
-  after-lengths = orElse (tableUnder k es pool) after-table
+  after-lengths = orElse (tableCheck (c .collation) (c .table)) (roomRefusal c)
 
   abbrev after-collation : Option Refusal
-  after-collation = orElse (lengthChecks 1 ls) after-lengths
+  after-collation = orElse (lengthChecks 1 (lengths c)) after-lengths
 
-  numbers-one : Numbers 1 1 (collationCheck k)
-  numbers-one = numbers-check 1 1 (not (eqb k 1 || eqb k 2 || eqb k 3)) 1 0 0 (omega arith) (omega arith)
+  numbers-one : Numbers 1 1 (collationCheck (c .collation))
+  numbers-one = numbers-check 1 1 (not (there (c .collation))) 1 0 0 (omega arith) (omega arith)
+
+  numbers-room : Numbers 8 8 (roomRefusal c)
+  numbers-room = numbers-rooms 1 (c .lents) (preparedIn c)
 
   numbers-later : Numbers 3 8 after-lengths
   numbers-later =
-      numbers-else 3 8 (tableUnder k es pool) after-table
-      (numbers-wider (numbers-under k es pool) 3 8 (omega arith) (omega arith))
-      (numbers-else 3 8 (roomChecks k (mappingOf es pool) 1 ls) none
-      (numbers-wider (numbers-rooms k (mappingOf es pool) 1 ls) 3 8 (omega arith) (omega arith))
-      (numbers-none 3 8))
+      numbers-else 3 8 (tableCheck (c .collation) (c .table)) (roomRefusal c)
+      (numbers-wider (numbers-under (c .collation) (c .table)) 3 8 (omega arith) (omega arith))
+      (numbers-wider numbers-room 3 8 (omega arith) (omega arith))
 
-  module _ (x : Refusal) (e : callRefusal k ls es pool ≡ some x) where
-    -- a call that is refused with 8 is refused for a key's room
-    pub eight-rooms : x .number ≡ 8 → roomChecks k (mappingOf es pool) 1 ls ≡ some x
-    unfolding callRefusal
-    eight-rooms n =
-        sym (orElse-none (roomChecks k (mappingOf es pool) 1 ls))
-        ∙ numbers-past (numbers-under k es pool) after-table x (λ a b. omega arith)
-        (numbers-past (numbers-lengths 1 ls) after-lengths x (λ a b. omega arith)
-        (numbers-past numbers-one after-collation x (λ a b. omega arith) e))
+  -- a call that is refused with 8 is refused for a key's room
+  pub eight-rooms : (x : Refusal) → callRefusal c ≡ some x → x .number ≡ 8 → roomRefusal c ≡ some x
+  eight-rooms x e n =
+      numbers-past (numbers-under (c .collation) (c .table)) (roomRefusal c) x (λ a b. omega arith)
+      (numbers-past (numbers-lengths 1 (lengths c)) after-lengths x (λ a b. omega arith)
+      (numbers-past numbers-one after-collation x (λ a b. omega arith) (sym (callRefusal-row c) ∙ e)))
 
 -- ---- places
 
@@ -144,20 +144,20 @@ beyond-else n p (some y) d a b = a
 beyond-numbers : (n p : ℕ) {low high : ℕ} {c : Option Refusal} → Numbers low high c → n < low → Beyond n p c
 beyond-numbers n p ns l x e f = absurd (omega (arith, ns x e .0))
 
-beyond-lengths : (p q : ℕ) (ls : List Lent) → p < q → Beyond 2 p (lengthChecks q ls)
+beyond-lengths : (p q : ℕ) (ns : List ℕ) → p < q → Beyond 2 p (lengthChecks q ns)
 beyond-lengths p q [] l = λ x e f. absurd (none-some x e)
-beyond-lengths p q (t ∷ ls) l =
-    beyond-else 2 p (lengthCheck q (length (t .text))) (lengthChecks (suc q) ls)
-    (beyond-check 2 p (ltb textMost (length (t .text))) q (length (t .text)) l)
-    (beyond-lengths p (suc q) ls (omega arith))
+beyond-lengths p q (n ∷ ns) l =
+    beyond-else 2 p (lengthCheck q n) (lengthChecks (suc q) ns)
+    (beyond-check 2 p (ltb textMost n) q n l)
+    (beyond-lengths p (suc q) ns (omega arith))
 
-beyond-rooms : (k : ℕ) (m : Mapping) (p q : ℕ) (ls : List Lent) → p < q → Beyond 8 p (roomChecks k m q ls)
-beyond-rooms k m p q [] l = λ x e f. absurd (none-some x e)
-beyond-rooms k m p q (t ∷ ls) l =
-    let key = prepared k m (t .text) in
-    beyond-else 8 p (roomCheck q (t .room) key) (roomChecks k m (suc q) ls)
-    (beyond-check 8 p (ltb (t .room) (roomFor key)) q (roomFor key) l)
-    (beyond-rooms k m p (suc q) ls (omega arith))
+beyond-rooms : (p q : ℕ) (ls : List Lent) (ps : List PreparedText) → p < q → Beyond 8 p (roomChecks q ls ps)
+beyond-rooms p q [] ps l = λ x e f. absurd (none-some x e)
+beyond-rooms p q (t ∷ ls) [] l = λ x e f. absurd (none-some x e)
+beyond-rooms p q (t ∷ ls) (k ∷ ps) l =
+    beyond-else 8 p (roomCheck q (length (t .buffer)) k) (roomChecks (suc q) ls ps)
+    (beyond-check 8 p (ltb (length (t .buffer)) (roomFor k)) q (roomFor k) l)
+    (beyond-rooms p (suc q) ls ps (omega arith))
 
 -- a check's refusal is given exactly when its test holds, if no later check gives the same
 here-exactly : (n p d a b : ℕ) (rest : Option Refusal) → Beyond n p rest
@@ -170,77 +170,70 @@ here-exactly n p d a b rest later = (λ e. go (ltb a b) refl e, λ l. rw (lt-ltb
 
 -- ---- 1, 2 and 8 in words
 
-collation-known : (k : ℕ) → Collation k → collationCheck k ≡ none
+collation-known : (k : ℕ) → CollationNumber k → collationCheck (collationOf k) ≡ none
 collation-known k (inl e) = rw e
 collation-known k (inr (inl e)) = rw e
 collation-known k (inr (inr e)) = rw e
 
-collation-unknown : (k : ℕ) → (Collation k → ⊥) → collationCheck k ≡ some (refusal 1 0 0)
+collation-unknown : (k : ℕ) → (CollationNumber k → ⊥) → collationCheck (collationOf k) ≡ some (refusal 1 0 0)
 collation-unknown k h = rw (ne-eqb k 1 (λ e. h (inl e)), ne-eqb k 2 (λ e. h (inr (inl e))), ne-eqb k 3 (λ e. h (inr (inr e))))
 
-module _ (k : ℕ) (es pool : List ℕ) where
-  -- 1 exactly when the collation is not one
-  pub one-exactly : (ls : List Lent) → (callRefusal k ls es pool ≡ some (refusal 1 0 0)) ↔ (Collation k → ⊥)
-  unfolding callRefusal
-  one-exactly ls = (
-    λ e known. omega (
-      arith,
-      numbers-else 2 8 (lengthChecks 1 ls) (after-lengths k ls es pool)
-          (numbers-wider (numbers-lengths 1 ls) 2 8 (omega arith) (omega arith))
-          (numbers-wider (numbers-later k ls es pool) 2 8 (omega arith) (omega arith))
-          (refusal 1 0 0) (rw (collation-known k known) at e) .0,
-    ),
-    λ unknown. rw (collation-unknown k unknown),
-  )
+-- 1 exactly when the collation is not one
+pub one-exactly : (k : ℕ) (t : Table) (ls : List Lent)
+    → (callRefusal (call (collationOf k) t ls) ≡ some (refusal 1 0 0)) ↔ (CollationNumber k → ⊥)
+one-exactly k t ls =
+    let c : Call = call (collationOf k) t ls in (
+      λ e known. omega (
+        arith,
+        numbers-else 2 8 (lengthChecks 1 (lengths c)) (after-lengths c)
+            (numbers-wider (numbers-lengths 1 (lengths c)) 2 8 (omega arith) (omega arith))
+            (numbers-wider (numbers-later c) 2 8 (omega arith) (omega arith))
+            (refusal 1 0 0) (rw (collation-known k known) at (sym (callRefusal-row c) ∙ e)) .0,
+      ),
+      λ unknown. callRefusal-row c ∙ rw (collation-unknown k unknown),
+    )
 
-  module _ (known : Collation k) where
-    -- 2 of the first text exactly when it is too long
-    pub two-first : (t : Lent) (ls : List Lent)
-        → (callRefusal k (t ∷ ls) es pool ≡ some (refusal 2 1 (length (t .text)))) ↔ (textMost < length (t .text))
-    unfolding callRefusal
-    two-first t ls =
-        let rest = after-lengths k (t ∷ ls) es pool in
-        rw (collation-known k known, orElse-assoc (lengthCheck 1 (length (t .text))) (lengthChecks 2 ls) rest)
-        (here-exactly 2 1 (length (t .text)) textMost (length (t .text)) (orElse (lengthChecks 2 ls) rest)
-        (beyond-else 2 1 (lengthChecks 2 ls) rest (beyond-lengths 1 2 ls (omega arith))
-        (beyond-numbers 2 1 (numbers-later k (t ∷ ls) es pool) (omega arith))))
+module _ (k : Collation) (t : Table) where
+  -- 2 of the first text exactly when it is too long
+  pub two-first : (l : Lent) (ls : List Lent)
+      → (callRefusal (call (some k) t (l ∷ ls)) ≡ some (refusal 2 1 (length (l .text)))) ↔ (textMost < length (l .text))
+  two-first l ls =
+      let c : Call = call (some k) t (l ∷ ls) in
+      let rest = after-lengths c in
+      let others = lengthChecks 2 (lengths (call (some k) t ls)) in
+      rw (callRefusal-row c, orElse-assoc (lengthCheck 1 (length (l .text))) others rest)
+      (here-exactly 2 1 (length (l .text)) textMost (length (l .text)) (orElse others rest)
+      (beyond-else 2 1 others rest (beyond-lengths 1 2 (lengths (call (some k) t ls)) (omega arith))
+      (beyond-numbers 2 1 (numbers-later c) (omega arith))))
 
-    -- and of the second, where the first is not
-    pub two-second : (t u : Lent) → length (t .text) ≤ textMost
-        → (callRefusal k (t ∷ u ∷ []) es pool ≡ some (refusal 2 2 (length (u .text)))) ↔ (textMost < length (u .text))
-    unfolding callRefusal
-    two-second t u fits =
-        let rest = after-lengths k (t ∷ u ∷ []) es pool in
-        rw (collation-known k known, le-ltb textMost (length (t .text)) fits, orElse-none (lengthCheck 2 (length (u .text))))
-        (here-exactly 2 2 (length (u .text)) textMost (length (u .text)) rest
-        (beyond-numbers 2 2 (numbers-later k (t ∷ u ∷ []) es pool) (omega arith)))
+  -- and of the second, where the first is not
+  pub two-second : (l n : Lent) → length (l .text) ≤ textMost
+      → (callRefusal (call (some k) t (l ∷ n ∷ [])) ≡ some (refusal 2 2 (length (n .text)))) ↔ (textMost < length (n .text))
+  two-second l n fits =
+      let c : Call = call (some k) t (l ∷ n ∷ []) in
+      rw (callRefusal-row c, le-ltb textMost (length (l .text)) fits, orElse-none (lengthCheck 2 (length (n .text))))
+      (here-exactly 2 2 (length (n .text)) textMost (length (n .text)) (after-lengths c)
+      (beyond-numbers 2 2 (numbers-later c) (omega arith)))
 
-  -- where none of 1 to 7 applies, 8 is left
-  eight-left : (ls : List Lent) → oneToSeven k ls es pool ≡ none
-      → callRefusal k ls es pool ≡ roomChecks k (mappingOf es pool) 1 ls
-  unfolding callRefusal
-  eight-left ls passed =
-      let one = orElse-neither (collationCheck k) (orElse (lengthChecks 1 ls) (orElse (tableUnder k es pool) none)) passed in
-      let two = orElse-neither (lengthChecks 1 ls) (orElse (tableUnder k es pool) none) (one .1) in
-      let three = orElse-neither (tableUnder k es pool) none (two .1) in
-      rw (one .0, two .0, three .0) (orElse-none (roomChecks k (mappingOf es pool) 1 ls))
-
-  -- 8 of the first text exactly when its buffer is too short
-  pub eight-first : (t : Lent) (ls : List Lent) → oneToSeven k (t ∷ ls) es pool ≡ none
-      → let n = roomFor (prepared k (mappingOf es pool) (t .text)) in
-      (callRefusal k (t ∷ ls) es pool ≡ some (refusal 8 1 n)) ↔ (t .room < n)
-  eight-first t ls passed =
-      let n = roomFor (prepared k (mappingOf es pool) (t .text)) in
-      rw (eight-left (t ∷ ls) passed)
-      (here-exactly 8 1 n (t .room) n (roomChecks k (mappingOf es pool) 2 ls)
-      (beyond-rooms k (mappingOf es pool) 1 2 ls (omega arith)))
+  -- 8 of the first text, where 1 to 7 were passed, exactly when its buffer is too short
+  pub eight-first : (l : Lent) (ls : List Lent) → readyRefusal (call (some k) t (l ∷ ls)) ≡ none
+      → let n = roomFor (prepared k (mappingT t) (l .text)) in
+      (callRefusal (call (some k) t (l ∷ ls)) ≡ some (refusal 8 1 n)) ↔ (length (l .buffer) < n)
+  eight-first l ls ready =
+      let n = roomFor (prepared k (mappingT t) (l .text)) in
+      let others = preparedIn (call (some k) t ls) in
+      rw (callRefusal-ready (call (some k) t (l ∷ ls)) ready)
+      (here-exactly 8 1 n (length (l .buffer)) n (roomChecks 2 ls others) (beyond-rooms 1 2 ls others (omega arith)))
 
   -- and of the second, where the first's is not
-  pub eight-second : (t u : Lent) → oneToSeven k (t ∷ u ∷ []) es pool ≡ none
-      → roomFor (prepared k (mappingOf es pool) (t .text)) ≤ t .room
-      → let n = roomFor (prepared k (mappingOf es pool) (u .text)) in
-      (callRefusal k (t ∷ u ∷ []) es pool ≡ some (refusal 8 2 n)) ↔ (u .room < n)
-  eight-second t u passed fits =
-      let n = roomFor (prepared k (mappingOf es pool) (u .text)) in
-      rw (eight-left (t ∷ u ∷ []) passed, le-ltb (t .room) (roomFor (prepared k (mappingOf es pool) (t .text))) fits)
-      (here-exactly 8 2 n (u .room) n none (λ x e f. absurd (none-some x e)))
+  pub eight-second : (l o : Lent) → readyRefusal (call (some k) t (l ∷ o ∷ [])) ≡ none
+      → roomFor (prepared k (mappingT t) (l .text)) ≤ length (l .buffer)
+      → let n = roomFor (prepared k (mappingT t) (o .text)) in
+      (callRefusal (call (some k) t (l ∷ o ∷ [])) ≡ some (refusal 8 2 n)) ↔ (length (o .buffer) < n)
+  eight-second l o ready fits =
+      let n = roomFor (prepared k (mappingT t) (o .text)) in
+      rw (
+        callRefusal-ready (call (some k) t (l ∷ o ∷ [])) ready,
+        le-ltb (length (l .buffer)) (roomFor (prepared k (mappingT t) (l .text))) fits,
+      )
+      (here-exactly 8 2 n (length (o .buffer)) n none (λ x e f. absurd (none-some x e)))

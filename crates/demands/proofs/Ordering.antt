@@ -5,16 +5,14 @@ use Prim.Native.Nat.{ℕ, compare, Ordering, Ordering·lt, Ordering·eq, Orderin
 use native.Mathlib.Omega.{arith}
 use mathlib.Core.Logic.{_↔_}
 use mathlib.Core.List.{List, [], _∷_}
-use Rattle.table.specs.Mapping.{Mapping}
-use Rattle.table.specs.Table.{mappingOf}
-use Rattle.prepare.specs.Keys.{keyOf}
-use Rattle.compare.specs.KeyOrder.{orderOf}
-use Rattle.compare.specs.Compare.{textOrder}
+use Rattle.octets.specs.Order.{orderOf}
+use Rattle.octets.proofs.Order.{flip, compare-refl, compare-equal, compare-below, compare-less, order-flip}
+use Rattle.keys.specs.Keys.{PreparedText}
+use Rattle.compare.specs.Compare.{orderedBy}
 use Rattle.compare.specs.declared.Ordered.{Ordered}
 use Rattle.compare.specs.declared.Ordered.the-variants.{Less, Greater}
-use Rattle.compare.proofs.KeyOrder.{flip, compare-refl, compare-equal, compare-below, compare-less, order-flip}
 use Rattle.compare.proofs.Preorder.{answers-keys}
-use Rattle.compare.proofs.Says.{OrderSays, orderedBy}
+use Rattle.compare.proofs.Says.{OrderSays}
 use Rattle.demands.specs.Demands.{Precedes, proper-prefix, lower, later}
 
 less-precedes : (xs ys : List ℕ) → orderOf xs ys ≡ Ordering·lt → Precedes xs ys
@@ -45,23 +43,20 @@ greater-is Ordering·lt = (λ e. cc, λ e. cc)
 greater-is Ordering·eq = (λ e. cc, λ e. cc)
 greater-is Ordering·gt = (λ e. refl, λ e. refl)
 
-module _ {k : ℕ} {es pool s t : List ℕ} {r : Ordered} (c : OrderSays k es pool s t r) where
-  abbrev m : Mapping
-  m = mappingOf es pool
-
+module _ {p q : PreparedText} {r : Ordered} (c : OrderSays p q r) where
   -- Less is answered exactly where the first key precedes the second
-  pub less-exactly : (r ≡ Less) ↔ Precedes (keyOf k (mappingOf es pool) s) (keyOf k (mappingOf es pool) t)
+  pub less-exactly : (r ≡ Less) ↔ Precedes (p .key) (q .key)
   less-exactly =
-      let is = less-is (textOrder k m s t) in (
-        λ e. less-precedes (keyOf k m s) (keyOf k m t) (is .0 (sym (answers-keys c) ∙ e)),
-        λ p. answers-keys c ∙ is .1 (precedes-less p),
+      let is = less-is (orderOf (p .key) (q .key)) in (
+        λ e. less-precedes (p .key) (q .key) (is .0 (sym (answers-keys c) ∙ e)),
+        λ h. answers-keys c ∙ is .1 (precedes-less h),
       )
 
   -- and Greater where the second precedes the first
-  pub greater-exactly : (r ≡ Greater) ↔ Precedes (keyOf k (mappingOf es pool) t) (keyOf k (mappingOf es pool) s)
+  pub greater-exactly : (r ≡ Greater) ↔ Precedes (q .key) (p .key)
   greater-exactly =
-      let is = greater-is (textOrder k m s t) in
-      let turned = order-flip (keyOf k m s) (keyOf k m t) in (
-        λ e. less-precedes (keyOf k m t) (keyOf k m s) (turned ∙ is .0 (sym (answers-keys c) ∙ e)),
-        λ p. answers-keys c ∙ is .1 (sym turned ∙ precedes-less p),
+      let is = greater-is (orderOf (p .key) (q .key)) in
+      let turned = order-flip (p .key) (q .key) in (
+        λ e. less-precedes (q .key) (p .key) (turned ∙ is .0 (sym (answers-keys c) ∙ e)),
+        λ h. answers-keys c ∙ is .1 (sym turned ∙ precedes-less h),
       )

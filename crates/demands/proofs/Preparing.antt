@@ -3,30 +3,30 @@
 use mathlib.Core.Path.{_≡_, refl, sym, ap, _∙_}
 use Prim.Native.Nat.{ℕ, _<_}
 use mathlib.Core.Bool.{Bool, true, false}
-use mathlib.Core.Option.{none, some}
+use mathlib.Core.Option.{Option, none, some}
 use mathlib.Core.List.{List, [], _∷_}
 use lib.Dec.{ltb}
 use lib.ListN.{length}
 use borrow.Author.Tests.{ltb-true}
 use Rattle.terms.specs.Lists.{orElse}
-use Rattle.terms.specs.Refusals.{refusal, check, gives}
+use Rattle.terms.specs.Refusals.{refusal, check}
+use Rattle.terms.specs.declared.Collation.{Collation}
+use Rattle.terms.specs.declared.Collation.the-variants.{UnicodeCasemap}
 use Rattle.terms.specs.declared.Refusal.{Refusal}
-use Rattle.terms.proofs.Checks.{orElse-neither, answer-given, answer-refused}
 use Rattle.terms.proofs.Tests.{none-some}
-use Rattle.table.specs.Mapping.{Mapping}
-use Rattle.table.specs.Table.{mappingOf}
 use Rattle.utf8.specs.Utf8.{Character, characters}
 use Rattle.decompose.specs.Steps.{stepsKey}
-use Rattle.decompose.specs.TableCheck.{tableRefusal}
-use Rattle.prepare.specs.Keys.{Prepared as Key, unicodePrepared, prepared, keyOf}
-use Rattle.prepare.specs.Calls.{lent, roomChecks, summaryNumbers, preparedValues, prepareRefusal, shownKey}
-use Rattle.prepare.specs.Promises.{Prepares}
+use Rattle.keys.specs.Tables.{Table, mappingT, refusalT}
+use Rattle.keys.specs.Keys.{PreparedText, unicodePrepared, prepared, keyOf}
+use Rattle.keys.specs.Summaries.{summaryNumbers, preparedNumbers}
+use Rattle.keys.specs.declared.Summary.{Summary}
+use Rattle.keys.proofs.Injective.{truth-inj}
+use Rattle.prepare.specs.Calls.{Lent, call, callRefusal}
+use Rattle.prepare.specs.Preparing.{preparationOutcome, shownKey, Prepares}
 use Rattle.prepare.specs.declared.Preparation.{Preparation}
 use Rattle.prepare.specs.declared.Preparation.the-variants.{Prepared, Refused}
-use Rattle.prepare.specs.declared.Summary.{Summary}
-use Rattle.prepare.proofs.Answers.{truth-inj}
-use Rattle.prepare.proofs.Collations.{prepared-unicode, tableUnder-unicode}
-use Rattle.prepare.proofs.Joining.{front, front-passed, callRefusal-one}
+use Rattle.prepare.proofs.Answering.{answered-gives, answered-refused}
+use Rattle.prepare.proofs.CallRefusals.{unrefused-table}
 use Rattle.prepare.proofs.Shown.{shown-key}
 use Rattle.demands.specs.Demands.{Exact, Short}
 use Rattle.demands.proofs.Numbers.{eight-rooms}
@@ -36,51 +36,46 @@ check-some : (b : Bool) (n p d : ℕ) (x : Refusal) → orElse (check b n p d) n
 check-some true n p d x e = (refl, cc)
 check-some false n p d x e = absurd (none-some x e)
 
-module _ {k : ℕ} {text es pool buffer after : List ℕ} {r : Preparation} (h : Prepares k text es pool buffer r after) where
+module _ {k : Collation} {t : Table} {l : Lent} {r : Preparation} {after : List ℕ} (h : Prepares (call (some k) t (l ∷ [])) r after)
+    {s : Summary} (e : r ≡ Prepared s) where
   -- a text that was prepared was not refused
-  pub unrefused : (s : Summary) → r ≡ Prepared s → prepareRefusal k text es pool buffer ≡ none
-  unrefused s e = answer-given _ _ (summaryNumbers s) (rw e at (h .answered))
+  pub unrefused : callRefusal (call (some k) t (l ∷ [])) ≡ none
+  unrefused = answered-gives (h .call) (summaryNumbers s) (ap preparationOutcome e) .0
 
   -- and its numbers are the prepared text's
-  numbers-are : (s : Summary) → r ≡ Prepared s → summaryNumbers s ≡ preparedValues (prepared k (mappingOf es pool) text)
-  numbers-are s e = let told = rw (unrefused s e) at (rw e at (h .answered)) in cc
+  numbers-are : summaryNumbers s ≡ preparedNumbers (prepared k (mappingT t) (l .text))
+  numbers-are = let told = answered-gives (h .call) (summaryNumbers s) (ap preparationOutcome e) .1 in cc
 
   -- it shows its key
-  pub shows : (s : Summary) → r ≡ Prepared s → shownKey r text after ≡ keyOf k (mappingOf es pool) text
-  shows s e = shown-key k text es pool buffer r after h (unrefused s e)
-
-  -- under collation 3 its table was accepted
-  pub table-accepted : k ≡ 3 → (s : Summary) → r ≡ Prepared s → tableRefusal es pool ≡ none
-  table-accepted is s e =
-      let rooms = roomChecks k (mappingOf es pool) 1 (lent text buffer ∷ []) in
-      let parted : orElse (front k (length text) 0 es pool) rooms ≡ none =
-      sym (callRefusal-one k es pool text buffer) ∙ unrefused s e in
-      tableUnder-unicode k es pool is
-      (front-passed k (length text) 0 es pool (orElse-neither (front k (length text) 0 es pool) rooms parted .0) .table)
+  pub shows : shownKey r (l .text) after ≡ keyOf k (mappingT t) (l .text)
+  shows = shown-key h unrefused
 
 -- a valid text under collation 3
-prepared-valid : (m : Mapping) (t : List ℕ) (chs : List Character) → characters t ≡ some chs
-    → prepared 3 m t ≡ unicodePrepared m t (some chs)
-prepared-valid m t chs valid = prepared-unicode 3 m t refl ∙ ap (unicodePrepared m t) valid
+module _ {t : Table} {l : Lent} {r : Preparation} {after : List ℕ} (h : Prepares (call (some UnicodeCasemap) t (l ∷ [])) r after) where
+  -- its table was accepted
+  pub table-accepted : {s : Summary} → r ≡ Prepared s → refusalT t ≡ none
+  table-accepted e = unrefused-table (call (some UnicodeCasemap) t (l ∷ [])) (unrefused h e)
 
-module _ {text es pool buffer after : List ℕ} {r : Preparation} (h : Prepares 3 text es pool buffer r after)
-    {chs : List Character} (valid : characters text ≡ some chs) where
-  -- it was prepared: the answer is that of the published steps
-  pub exact : (s : Summary) → r ≡ Prepared s → Exact (mappingOf es pool) chs s (shownKey r text after)
-  exact s e =
-      let same = rw (prepared-valid (mappingOf es pool) text chs valid) at (numbers-are h s e) in
-      record {
-        valid = truth-inj (s .valid) true (cc);
-        count = cc;
-        size = cc;
-        key = shows h s e ∙ ap (λ (p : Key). p .key) (prepared-valid (mappingOf es pool) text chs valid);
-      }
+  module _ {chs : List Character} (valid : characters (l .text) ≡ some chs) where
+    prepared-valid : prepared UnicodeCasemap (mappingT t) (l .text) ≡ unicodePrepared (mappingT t) (l .text) (some chs)
+    prepared-valid = ap (unicodePrepared (mappingT t) (l .text)) valid
 
-  -- it was refused for its buffer: the refusal names that key's length, and the buffer is shorter
-  pub short : (x : Refusal) → r ≡ Refused x → x .number ≡ 8 → Short (mappingOf es pool) chs buffer x
-  short x e n =
-      let m = mappingOf es pool in
-      let is : prepareRefusal 3 text es pool buffer ≡ some x = answer-refused _ _ x (rw e at (h .answered)) in
-      let rooms = rw (prepared-valid m text chs valid) at (eight-rooms 3 (lent text buffer ∷ []) es pool x is n) in
-      let gives = check-some (ltb (length buffer) (length (stepsKey m chs))) 8 1 (length (stepsKey m chs)) x rooms in
-      record { names = gives .1; shorter = ltb-true (length buffer) (length (stepsKey m chs)) (gives .0) }
+    -- it was prepared: the answer is that of the published steps
+    pub exact : (s : Summary) → r ≡ Prepared s → Exact (mappingT t) chs s (shownKey r (l .text) after)
+    exact s e =
+        let same = rw prepared-valid at (numbers-are h e) in
+        record {
+          valid = truth-inj (s .valid) true (cc);
+          count = cc;
+          size = cc;
+          key = shows h e ∙ ap (λ (p : PreparedText). p .key) prepared-valid;
+        }
+
+    -- it was refused for its buffer: the refusal names that key's length, and the buffer is shorter
+    pub short : (x : Refusal) → r ≡ Refused x → x .number ≡ 8 → Short (mappingT t) chs (l .buffer) x
+    short x e n =
+        let is = answered-refused (h .call) x (ap preparationOutcome e) in
+        let rooms = rw prepared-valid at (eight-rooms (call (some UnicodeCasemap) t (l ∷ [])) x is n) in
+        let needed = length (stepsKey (mappingT t) chs) in
+        let test = check-some (ltb (length (l .buffer)) needed) 8 1 needed x rooms in
+        record { names = test .1; shorter = ltb-true (length (l .buffer)) needed (test .0) }

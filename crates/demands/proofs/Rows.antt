@@ -1,4 +1,4 @@
--- A row of checks gives the first that applies, and an answer is a refusal exactly when that is the call's.
+-- A row of checks gives the first that applies; the refusals of a table and of a call on texts are such rows.
 -- Assumes nothing.
 use mathlib.Core.Path.{_≡_, sym, ap, _∙_, refl}
 use Prim.Native.Nat.{ℕ, zero, suc}
@@ -7,11 +7,13 @@ use mathlib.Core.Option.{Option, none, some}
 use mathlib.Core.List.{List, [], _∷_, _++_}
 use lib.ListN.{replicate}
 use Rattle.terms.specs.Lists.{orElse}
-use Rattle.terms.specs.Refusals.{first, answer, Outcome, refused, gives}
+use Rattle.terms.specs.Refusals.{first}
 use Rattle.terms.specs.declared.Refusal.{Refusal}
-use Rattle.terms.proofs.Checks.{orElse-assoc, answer-given, answer-refused}
+use Rattle.terms.proofs.Checks.{orElse-assoc}
 use Rattle.terms.proofs.Tests.{none-some}
-use Rattle.demands.specs.Demands.{Given, FirstApplies}
+use Rattle.keys.specs.Keys.{PreparedText}
+use Rattle.prepare.specs.Calls.{Lent, Call, lengths, preparedIn, lengthCheck, lengthChecks, tableCheck, collationCheck, roomChecks, roomRefusal, callRefusal}
+use Rattle.demands.specs.Demands.{FirstApplies, lengthRow, roomRow, callChecks}
 
 -- ---- the first check that applies
 
@@ -35,19 +37,33 @@ pub first-append : (xs ys : List (Option Refusal)) → first (xs ++ ys) ≡ orEl
 first-append [] ys = refl
 first-append (x ∷ xs) ys = rw (orElse-assoc x (first xs) (first ys), first-append xs ys)
 
--- ---- an answer and its numbers
+-- ---- a call on texts
 
--- an answer is a refusal exactly when that is the call's
-pub refused-exactly : {A : Type 0} (told : A → Outcome) → ((a b : A) → told a ≡ told b → a ≡ b)
-    → (refuses : Refusal → A) → ((x : Refusal) → told (refuses x) ≡ refused x)
-    → (r : A) (o : Option Refusal) (vs : List ℕ) → told r ≡ answer o vs
-    → (x : Refusal) → (r ≡ refuses x) ↔ (o ≡ some x)
-refused-exactly told inj refuses is r o vs e x = (
-  λ q. answer-refused o vs x (sym (is x) ∙ ap told (sym q) ∙ e),
-  λ q. inj r (refuses x) (e ∙ ap (λ (p : Option Refusal). answer p vs) q ∙ sym (is x)),
-)
+-- its lengths' checks, and its rooms'
+first-lengthRow : (place : ℕ) (ns : List ℕ) → first (lengthRow place ns) ≡ lengthChecks place ns
+first-lengthRow place [] = refl
+first-lengthRow place (n ∷ ns) = ap (orElse (lengthCheck place n)) (first-lengthRow (suc place) ns)
 
--- one that is no refusal gives the call's values
-pub given-values : (a : Outcome) (o : Option Refusal) (vs : List ℕ) → a ≡ answer o vs → Given a → a ≡ gives vs
-given-values (gives ws) o vs e g = rw (answer-given o vs ws e) at e
-given-values (refused x) o vs e g = absurd g
+first-roomRow : (place : ℕ) (ls : List Lent) (ps : List PreparedText) → first (roomRow place ls ps) ≡ roomChecks place ls ps
+first-roomRow place [] ps = refl
+first-roomRow place (l ∷ ls) [] = refl
+first-roomRow place (l ∷ ls) (p ∷ ps) = ap (orElse _) (first-roomRow (suc place) ls ps)
+
+-- its refusal, one check after another
+pub callRefusal-row : (c : Call)
+    → callRefusal c
+    ≡ orElse (collationCheck (c .collation)) (orElse (lengthChecks 1 (lengths c)) (orElse (tableCheck (c .collation) (c .table)) (roomRefusal c)))
+unfolding callRefusal
+callRefusal-row c =
+    orElse-assoc (orElse (collationCheck (c .collation)) (lengthChecks 1 (lengths c))) (tableCheck (c .collation) (c .table)) (roomRefusal c)
+    ∙ orElse-assoc (collationCheck (c .collation)) (lengthChecks 1 (lengths c)) _
+
+-- is that row's first
+pub first-callChecks : (c : Call) → first (callChecks c) ≡ callRefusal c
+first-callChecks c =
+    let table = tableCheck (c .collation) (c .table) in
+    let rooms = roomRow 1 (c .lents) (preparedIn c) in
+    ap (orElse (collationCheck (c .collation)))
+    (first-append (lengthRow 1 (lengths c)) (table ∷ rooms)
+    ∙ rw (first-lengthRow 1 (lengths c), first-roomRow 1 (c .lents) (preparedIn c)))
+    ∙ sym (callRefusal-row c)

@@ -2,23 +2,25 @@
 -- row and the first that applies, the order of keys, a hit, a table that calls of the builder have grown, a prepared text, bounds.
 -- Assumes nothing.
 use mathlib.Core.Path.{_≡_}
-use Prim.Native.Nat.{ℕ, _+_, _*_, _≤_, _<_}
+use Prim.Native.Nat.{ℕ, suc, _+_, _*_, _≤_, _<_}
 use mathlib.Core.Logic.{_⊎_}
 use mathlib.Core.Bool.{true}
 use mathlib.Core.Option.{Option, none, some}
 use mathlib.Core.List.{List, [], _∷_, _++_}
 use lib.ListN.{length, take, drop, replicate}
 use Rattle.terms.specs.Lists.{lowest}
-use Rattle.terms.specs.Refusals.{refusal, first, Outcome, refused, gives}
+use Rattle.terms.specs.Refusals.{refusal, Outcome, refused, gives}
+use Rattle.terms.specs.declared.Collation.{Collation}
 use Rattle.terms.specs.declared.Refusal.{Refusal}
 use Rattle.table.specs.Mapping.{Mapping}
-use Rattle.table.specs.Table.{entryCount, refusedAt, formChecks, mappingOf}
+use Rattle.table.specs.Table.{entryCount, refusedAt, formChecks}
 use Rattle.utf8.specs.Utf8.{Character}
 use Rattle.decompose.specs.Steps.{stepsKey, stepsLookups}
 use Rattle.decompose.specs.TableCheck.{faultyLevel}
-use Rattle.prepare.specs.Keys.{prepared, keyOf}
-use Rattle.prepare.specs.Calls.{Lent, collationCheck, lengthCheck, lengthChecks, tableUnder, roomCheck}
-use Rattle.prepare.specs.declared.Summary.{Summary}
+use Rattle.keys.specs.Tables.{Table}
+use Rattle.keys.specs.Keys.{PreparedText, keyOf}
+use Rattle.keys.specs.declared.Summary.{Summary}
+use Rattle.prepare.specs.Calls.{Lent, Call, lengths, preparedIn, collationCheck, lengthCheck, tableCheck, roomCheck}
 use Rattle.search.specs.Covering.{span}
 use Rattle.search.specs.Substring.{textRun}
 use Rattle.ucd.specs.Builder.{Built, stateAfter, Added}
@@ -39,42 +41,33 @@ pub record FirstApplies (checks : List (Option Refusal)) (x : Refusal) : Type 0 
   pub row : checks ≡ replicate passed none ++ some x ∷ rest
 
 -- the checks of a table: 3, 4, 5, 6, 7
-abbrev pub tableChecks : List ℕ → List ℕ → List (Option Refusal)
-tableChecks es pool = formChecks es pool ++ refusedAt 7 (lowest (faultyLevel es pool) (entryCount es)) ∷ []
+abbrev pub tableChecks : Table → List (Option Refusal)
+tableChecks t = formChecks (t .entries) (t .pool) ++ refusedAt 7 (lowest (faultyLevel (t .entries) (t .pool)) (entryCount (t .entries))) ∷ []
 
--- the checks of preparing a text: 1, 2, 3 to 7 under collation 3, 8
-abbrev pub prepareChecks : ℕ → List ℕ → List ℕ → List ℕ → List ℕ → List (Option Refusal)
-prepareChecks k text es pool buffer =
-    collationCheck k
-    ∷ lengthCheck 1 (length text)
-    ∷ tableUnder k es pool
-    ∷ roomCheck 1 (length buffer) (prepared k (mappingOf es pool) text)
-    ∷ []
+-- 2 for each text in its order, numbered from a place
+abbrev pub lengthRow : ℕ → List ℕ → List (Option Refusal)
+lengthRow place [] = []
+lengthRow place (n ∷ ns) = lengthCheck place n ∷ lengthRow (suc place) ns
 
--- the checks of a comparing call: 1, 2 (first text, then second), 3 to 7 under collation 3, 8 (first key, then second)
-abbrev pub compareChecks : ℕ → List ℕ → List ℕ → List ℕ → List ℕ → List ℕ → List ℕ → List (Option Refusal)
-compareChecks k s t es pool sBuffer tBuffer =
-    collationCheck k
-    ∷ lengthCheck 1 (length s)
-    ∷ lengthCheck 2 (length t)
-    ∷ tableUnder k es pool
-    ∷ roomCheck 1 (length sBuffer) (prepared k (mappingOf es pool) s)
-    ∷ roomCheck 2 (length tBuffer) (prepared k (mappingOf es pool) t)
-    ∷ []
+-- 8 for each text in its order
+abbrev pub roomRow : ℕ → List Lent → List PreparedText → List (Option Refusal)
+roomRow place (l ∷ ls) (p ∷ ps) = roomCheck place (length (l .buffer)) p ∷ roomRow (suc place) ls ps
+roomRow place [] ps = []
+roomRow place (l ∷ ls) [] = []
 
--- 1 to 7 of a call on texts, each with its buffer
-abbrev pub oneToSeven : ℕ → List Lent → List ℕ → List ℕ → Option Refusal
-oneToSeven k ls es pool = first (collationCheck k ∷ lengthChecks 1 ls ∷ tableUnder k es pool ∷ [])
+-- the checks of a call on texts: 1; 2 (first text, then second); 3 to 7 where the collation reads the table; 8 (first key, then second)
+abbrev pub callChecks : Call → List (Option Refusal)
+callChecks c =
+    collationCheck (c .collation)
+    ∷ lengthRow 1 (lengths c)
+    ++ tableCheck (c .collation) (c .table)
+    ∷ roomRow 1 (c .lents) (preparedIn c)
 
 -- a number of a collation
-abbrev pub Collation : ℕ → Type 0
-Collation k = (k ≡ 1) ⊎ ((k ≡ 2) ⊎ (k ≡ 3))
+abbrev pub CollationNumber : ℕ → Type 0
+CollationNumber k = (k ≡ 1) ⊎ ((k ≡ 2) ⊎ (k ≡ 3))
 
 -- ---- keys and their order
-
--- the key of a text under a collation, over the lent table
-abbrev pub keyOver : ℕ → List ℕ → List ℕ → List ℕ → List ℕ
-keyOver k es pool t = keyOf k (mappingOf es pool) t
 
 -- "octet by octet, unsigned; a proper prefix is less": one key precedes another
 pub data Precedes : List ℕ → List ℕ → Type 0 where
@@ -85,14 +78,14 @@ pub data Precedes : List ℕ → List ℕ → Type 0 where
 -- ---- substring
 
 -- the needle stands in the hay from place i on
-abbrev pub Stands : List ℕ → List ℕ → ℕ → Type 0
-Stands needle hay i = take (length needle) (drop i hay) ≡ needle
+abbrev pub OccursAt : List ℕ → List ℕ → ℕ → Type 0
+OccursAt needle hay i = take (length needle) (drop i hay) ≡ needle
 
 -- "the first occurrence in the key": the key of the text s stands in that of the text t from octet a up to b, first there, and
 -- c up to d is the run of t for it
-pub record Hit (k : ℕ) (m : Mapping) (s t : List ℕ) (a b c d : ℕ) : Type 0 where
-  pub stands : Stands (keyOf k m s) (keyOf k m t) a
-  pub nowhere-lower : (i : ℕ) → i < a → Stands (keyOf k m s) (keyOf k m t) i → ⊥
+pub record Hit (k : Collation) (m : Mapping) (s t : List ℕ) (a b c d : ℕ) : Type 0 where
+  pub occurs : OccursAt (keyOf k m s) (keyOf k m t) a
+  pub nowhere-lower : (i : ℕ) → i < a → OccursAt (keyOf k m s) (keyOf k m t) i → ⊥
   pub upto : b ≡ a + length (keyOf k m s)
   pub run : span c d ≡ textRun k m t (span a b)
 

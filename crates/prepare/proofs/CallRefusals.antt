@@ -93,11 +93,11 @@ checks-texts {o} {a} {b} {t} table h =
 -- ---- what is left of a call
 
 -- past 1 to 7, 8 is left
-callRefusal-ready : (c : Call) → readyRefusal c ≡ none → callRefusal c ≡ roomRefusal c
+pub callRefusal-ready : (c : Call) → readyRefusal c ≡ none → callRefusal c ≡ roomRefusal c
 unfolding callRefusal
 callRefusal-ready c e = orElse-second (readyRefusal c) (roomRefusal c) e
 
-callRefusal-refused : (c : Call) (x : Refusal) → readyRefusal c ≡ some x → callRefusal c ≡ some x
+pub callRefusal-refused : (c : Call) (x : Refusal) → readyRefusal c ≡ some x → callRefusal c ≡ some x
 unfolding callRefusal
 callRefusal-refused c x e = orElse-first (readyRefusal c) (roomRefusal c) x e
 
