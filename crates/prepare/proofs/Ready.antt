@@ -16,7 +16,8 @@ use Rattle.terms.proofs.Tests.{both}
 use Rattle.table.specs.Mapping.{Mapping}
 use Rattle.table.specs.Table.{mappingOf}
 use Rattle.utf8.specs.Utf8.{Character, characters}
-use Rattle.utf8.proofs.Characters.{characters-count}
+use Rattle.utf8.proofs.Characters.{utf8-decodes}
+use Rattle.utf8.proofs.Decoders.{characters-count}
 use Rattle.decompose.specs.TableCheck.{tableRefusal}
 use Rattle.decompose.proofs.Demand3.{accepted-lookups, accepted-key}
 use Rattle.prepare.specs.Keys.{Prepared as Key, prepared, roomFor, keyed, unicodePrepared, asciiPrepared, octetPrepared}
@@ -91,7 +92,7 @@ key-most es pool t accepted = go (characters t) refl
     go : (o : Option (List Character)) → characters t ≡ o
         → roomFor (unicodePrepared (mappingOf es pool) t o) ≤ expansionMost * length t
     go none e = zero-le
-    go (some chs) e = omega (arith, accepted-key es pool accepted chs, characters-count t chs e)
+    go (some chs) e = omega (arith, accepted-key es pool accepted chs, characters-count utf8-decodes t chs e)
 
 -- a buffer that is roomy for a text has room for its key
 pub record Roomy (k n room : ℕ) : Type 0 where
