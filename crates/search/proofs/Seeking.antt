@@ -17,7 +17,8 @@ use Rattle.table.specs.Mapping.{Mapping}
 use Rattle.table.specs.Table.{mappingOf}
 use Rattle.utf8.specs.Utf8.{Character, encode, encodes, characters}
 use Rattle.utf8.proofs.Encode.{encode-width}
-use Rattle.utf8.proofs.Characters.{characters-sound}
+use Rattle.utf8.proofs.Characters.{utf8-decodes}
+use Rattle.utf8.proofs.Decoders.{characters-empty}
 use Rattle.decompose.specs.Steps.{expansion, stepsKey}
 use Rattle.terms.specs.Refusals.{levelsMost}
 use Rattle.decompose.proofs.Bounds.{full-some}
@@ -59,7 +60,7 @@ unicode-some m t h = go (characters t) refl
   where
     go : (o : Option (List Character)) → characters t ≡ o → 0 < length (unicodePrepared m t o .key)
     go none e = h
-    go (some []) e = absurd (omega (arith, ap length (characters-sound t [] e .octets)))
+    go (some []) e = absurd (omega (arith, ap length (characters-empty utf8-decodes t e)))
     go (some (ch ∷ chs)) e = omega (arith, size-some m ch, length-key m ch chs)
 
 -- a text that is not empty has a key that is not
@@ -97,7 +98,7 @@ module _ (k : ℕ) (m : Mapping) (t : List ℕ) (valid : Bool) (s e : ℕ) (h : 
       ∙ sym (h .told)
 
   -- under collation 3 a hit in a valid text has a covering run
-  pub hits-within : k ≡ 3 → valid ≡ true → Within m t s e
+  pub hits-within : k ≡ 3 → valid ≡ true → Within m (characters t) s e
   hits-within is v =
       let there-is : there (characters t) ≡ true = told-there is ∙ v in
       let key : keyOf k m t ≡ stepsKey m (listed (characters t)) =

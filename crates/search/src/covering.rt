@@ -4,6 +4,7 @@ use terms::KeyPosition;
 use terms::TextPosition;
 ghost use mathlib.Core.Path.{_≡_};
 ghost use mathlib.Core.Option.{none};
+ghost use lib.ListN.{drop};
 ghost use Rattle.table.specs.Table.{mappingOf};
 ghost use Rattle.utf8.specs.Utf8.{characters};
 ghost use Rattle.decompose.specs.TableCheck.{tableRefusal};
@@ -33,7 +34,7 @@ pub fn cover(
     end: KeyPosition,
 ) -> Run
     requires { ⌜ tableRefusal (now entries) (now pool) ≡ none ⌝ }
-    requires { ⌜ Within (mappingOf (now entries) (now pool)) (now text) (start .0) (end .0) ⌝ }
+    requires { ⌜ Within (mappingOf (now entries) (now pool)) (characters (now text)) (start .0) (end .0) ⌝ }
     ensures { λ r. ⌜ runSpan r ≡ runIn (mappingOf (now (entries .entry)) (now (pool .entry))) (characters (now (text .entry))) (span (start .0) (end .0)) ⌝ }
 {
     let s = start.0;
@@ -59,8 +60,8 @@ fn find_holder(
     k: KeyPosition,
 ) -> Holder
     requires { ⌜ tableRefusal (now entries) (now pool) ≡ none ⌝ }
-    requires { ⌜ Ahead (mappingOf (now entries) (now pool)) (now text) (from .0) (k .0) ⌝ }
-    ensures { λ r. ⌜ Held (mappingOf (now (entries .entry)) (now (pool .entry))) (now (text .entry)) (from .0) (k .0) r ⌝ }
+    requires { ⌜ Ahead (mappingOf (now entries) (now pool)) (characters (drop (from .0) (now text))) (k .0) ⌝ }
+    ensures { λ r. ⌜ Held (mappingOf (now (entries .entry)) (now (pool .entry))) (characters (drop (from .0) (now (text .entry)))) (from .0) (k .0) r ⌝ }
 {
     let mut at = from.0;
     let mut left = k.0;
