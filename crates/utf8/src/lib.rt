@@ -1,7 +1,5 @@
-// UTF-8 (RFC 3629): characters out of octets, and code points into octets.
-//
-// A text is judged once, by is_valid, which asks nothing of the caller. read_valid asks that a character stands there. Writing
-// asks for a code point of at most 10FFFF hex and for room.
+// UTF-8 (RFC 3629): characters out of octets, and code points into octets. Judging a text asks nothing of the caller, reading
+// that a character stands there, writing a code point of at most 10FFFF hex and room.
 use terms::CodePoint;
 use terms::TextPosition;
 ghost use mathlib.Core.Path.{_≡_};
@@ -242,11 +240,8 @@ fn read_four(x: u32, rest: &[u8]) -> Reading
     if is_trailing(b) {
         if is_trailing(c) {
             if is_trailing(d) {
-                return accept(
-                    4,
-                    0x10000,
-                    x * 262144 + (b - 0x80) * 4096 + (c - 0x80) * 64 + (d - 0x80),
-                );
+                let code = x * 262144 + (b - 0x80) * 4096 + (c - 0x80) * 64 + (d - 0x80);
+                return accept(4, 0x10000, code);
             }
         }
     }

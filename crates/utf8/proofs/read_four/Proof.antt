@@ -111,40 +111,40 @@ is-trailing-requires-2 c κs = search needs
 is-trailing-requires-3 : tie.Need-is-trailing-requires-3
 is-trailing-requires-3 c κs = search needs
 
-mul-accept : tie.Need-mul-accept
-mul-accept c = search needs
+mul-code : tie.Need-mul-code
+mul-code c = search needs
 
 -- the second octet's bits
-sub-accept : tie.Need-sub-accept
-sub-accept c = omega (arith, bounds c)
+sub-code : tie.Need-sub-code
+sub-code c = omega (arith, bounds c)
 
 -- the second octet's bits, shifted
-mul-accept-2 : tie.Need-mul-accept-2
-mul-accept-2 c = omega (arith, bounds c)
+mul-code-2 : tie.Need-mul-code-2
+mul-code-2 c = omega (arith, bounds c)
 
 -- with the first octet's bits
-add-accept : tie.Need-add-accept
-add-accept c = omega (arith, bounds c)
+add-code : tie.Need-add-code
+add-code c = omega (arith, bounds c)
 
 -- the third octet's bits
-sub-accept-2 : tie.Need-sub-accept-2
-sub-accept-2 c = omega (arith, bounds c)
+sub-code-2 : tie.Need-sub-code-2
+sub-code-2 c = omega (arith, bounds c)
 
 -- the third octet's bits, shifted
-mul-accept-3 : tie.Need-mul-accept-3
-mul-accept-3 c = omega (arith, bounds c)
+mul-code-3 : tie.Need-mul-code-3
+mul-code-3 c = omega (arith, bounds c)
 
 -- with the bits before
-add-accept-2 : tie.Need-add-accept-2
-add-accept-2 c = omega (arith, bounds c)
+add-code-2 : tie.Need-add-code-2
+add-code-2 c = omega (arith, bounds c)
 
 -- the fourth octet's bits
-sub-accept-3 : tie.Need-sub-accept-3
-sub-accept-3 c = omega (arith, bounds c)
+sub-code-3 : tie.Need-sub-code-3
+sub-code-3 c = omega (arith, bounds c)
 
 -- with the bits before
-add-accept-3 : tie.Need-add-accept-3
-add-accept-3 c = omega (arith, bounds c)
+add-code-3 : tie.Need-add-code-3
+add-code-3 c = omega (arith, bounds c)
 
 accept-requires : tie.Need-accept-requires
 accept-requires c κs = search needs
@@ -204,15 +204,15 @@ read-four-spec =
     is-trailing-requires
     is-trailing-requires-2
     is-trailing-requires-3
-    mul-accept
-    sub-accept
-    mul-accept-2
-    add-accept
-    sub-accept-2
-    mul-accept-3
-    add-accept-2
-    sub-accept-3
-    add-accept-3
+    mul-code
+    sub-code
+    mul-code-2
+    add-code
+    sub-code-2
+    mul-code-3
+    add-code-2
+    sub-code-3
+    add-code-3
     accept-requires
     returns-2
     returns-3
