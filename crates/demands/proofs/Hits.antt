@@ -16,13 +16,16 @@ use Rattle.utf8.specs.Utf8.{Character, characters}
 use Rattle.terms.specs.declared.Collation.{Collation}
 use Rattle.terms.specs.declared.Collation.the-variants.{Octet, AsciiCasemap, UnicodeCasemap}
 use Rattle.keys.specs.Keys.{keyOf}
+use Rattle.keys.proofs.Validity.{key-valid}
+use Rattle.decompose.specs.Steps.{stepsKey}
 use Rattle.occurrence.specs.Occurrence.{occurrence}
 use Rattle.occurrence.proofs.Laws.{occurrence-some, occurrence-none, occurrence-is, occurrence-nowhere}
-use Rattle.search.specs.Covering.{Span, span}
+use Rattle.search.specs.Covering.{Span, span, covering}
 use Rattle.search.specs.Substring.{substringOutcome, runIn, textRun, foundValues, substringValues}
 use Rattle.search.specs.declared.Sought.{Sought}
 use Rattle.search.specs.declared.Sought.the-variants.{Match, NoMatch}
 use Rattle.search.proofs.Injective.{substringOutcome-inj}
+use Rattle.search.proofs.Seeking.{key-some}
 use Rattle.search.proofs.Cover.{Covers, hit-covers, hit-least}
 use Rattle.demands.specs.Demands.{OccursAt, Hit}
 
@@ -115,20 +118,22 @@ module _ {k : Collation} {m : Mapping} {s t : List ℕ} {a b c d : ℕ} (h : Hit
 
 module _ {m : Mapping} {s t : List ℕ} {a b c d : ℕ} (h : Hit UnicodeCasemap m s t a b c d)
     (text : 0 < length s) {chs : List Character} (valid : characters t ≡ some chs) where
-  found : occurrence (keyOf UnicodeCasemap m s) (keyOf UnicodeCasemap m t) ≡ some a
-  found = occurrence-is (keyOf UnicodeCasemap m s) (keyOf UnicodeCasemap m t) a (h .occurs) (h .nowhere-lower)
+  found : occurrence (keyOf UnicodeCasemap m s) (stepsKey m chs) ≡ some a
+  found = rw (key-valid m t chs valid) at (occurrence-is (keyOf UnicodeCasemap m s) (keyOf UnicodeCasemap m t) a (h .occurs) (h .nowhere-lower))
 
-  run-is : span c d ≡ textRun UnicodeCasemap m t (span a (a + length (keyOf UnicodeCasemap m s)))
-  run-is = rw (h .upto) at (h .run)
+  run-is : span c d ≡ covering m chs (span a (a + length (keyOf UnicodeCasemap m s)))
+  run-is =
+      rw (h .upto) at (h .run)
+      ∙ ap (λ (o : Option (List Character)). runIn m o (span a (a + length (keyOf UnicodeCasemap m s)))) valid
 
   -- it is a run of whole characters that covers the occurrence
   pub run-covers : Covers m chs a b (span c d)
-  run-covers = rw (run-is, h .upto) (hit-covers m s t chs a valid text found)
+  run-covers = rw (run-is, h .upto) (hit-covers m (keyOf UnicodeCasemap m s) chs a (key-some UnicodeCasemap m s text) found)
 
   -- and every run of whole characters that covers it contains this one
   pub run-least : (run : Span) → Covers m chs a b run → (run .start ≤ c) × (d ≤ run .end)
   run-least run w =
-      let least = hit-least m s t chs a valid text found (w .first) (w .last) (omega (arith, w .some)) (w .most) (w .starts)
+      let least = hit-least m (keyOf UnicodeCasemap m s) chs a (key-some UnicodeCasemap m s text) found (w .first) (w .last) (omega (arith, w .some)) (w .most) (w .starts)
       (omega (arith, w .ends, h .upto)) in
       let start = ap (λ (x : Span). x .start) run-is in
       let end = ap (λ (x : Span). x .end) run-is in

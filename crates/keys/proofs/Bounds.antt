@@ -12,7 +12,7 @@ use Rattle.terms.specs.Refusals.{expansionMost}
 use Rattle.terms.specs.declared.Collation.{Collation}
 use Rattle.terms.specs.declared.Collation.the-variants.{Octet, AsciiCasemap, UnicodeCasemap}
 use Rattle.utf8.specs.Utf8.{Character, characters}
-use Rattle.utf8.proofs.Characters.{characters-count}
+use Rattle.utf8.proofs.Characters.{utf8-decodes}
 use Rattle.decompose.proofs.Demand3.{accepted-lookups, accepted-key}
 use Rattle.keys.specs.Tables.{Table, mappingT, refusalT}
 use Rattle.keys.specs.Keys.{prepared, unicodePrepared, tableUnder, roomFor}

@@ -10,8 +10,10 @@ use Rattle.terms.specs.CodePoints.{scalar}
 use Rattle.terms.specs.Lists.{all, each, there}
 use Rattle.terms.proofs.Lists.{all-first, all-rest, all-append, each-append}
 use Rattle.table.specs.Mapping.{Mapping}
+use Rattle.utf8.specs.Characters.{codesOf}
 use Rattle.utf8.specs.Utf8.{Character, encode, encodes, characters}
-use Rattle.utf8.proofs.Characters.{codesOf, characters-encodes, characters-exactly}
+use Rattle.utf8.proofs.Characters.{utf8-decodes, characters-encodes}
+use Rattle.utf8.proofs.Decoders.{characters-scalars}
 use Rattle.decompose.specs.Steps.{expansion, stepsKey}
 use Rattle.decompose.proofs.Demand3.{accepted-expansion-scalar}
 use Rattle.keys.specs.Tables.{Table, mappingT, refusalT}
@@ -46,10 +48,9 @@ expansions-scalar m ok (c ∷ cs) e =
 -- so the key of a valid text is UTF-8
 valid-key : (m : Mapping) → Scalars m → (t : List ℕ) (chs : List Character) → characters t ≡ some chs → there (characters (stepsKey m chs)) ≡ true
 valid-key m ok t chs e =
-    let s = characters-exactly t chs .0 e in
     let codes : List ℕ = expansions m (codesOf chs) in
     ap (λ (l : List ℕ). there (characters l)) (stepsKey-encodes m chs)
-    ∙ ap there (characters-encodes codes (expansions-scalar m ok (codesOf chs) (s .scalars)))
+    ∙ ap there (characters-encodes codes (expansions-scalar m ok (codesOf chs) (characters-scalars utf8-decodes t chs e)))
 
 -- the key of a valid text, and of one that is not
 pub key-valid : (m : Mapping) (t : List ℕ) (chs : List Character) → characters t ≡ some chs → keyOf UnicodeCasemap m t ≡ stepsKey m chs

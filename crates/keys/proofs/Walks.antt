@@ -1,5 +1,5 @@
--- The walks over a text's characters: what sizing and writing have after its first octets, on plain values, each with its laws,
--- start, one more, done.
+-- The walks over a text's characters, by every decoder: what sizing (`Sizing`) and writing (`Writing`) have after its first octets,
+-- on plain values, each with its laws, start, one more, done.
 -- Assumes nothing.
 use mathlib.Core.Path.{_≡_, refl, sym, ap, _∙_}
 use Prim.Native.Nat.{ℕ, _+_, _*_, _≤_, _<_}
@@ -8,14 +8,12 @@ use native.Mathlib.Omega.{arith}
 use mathlib.Core.Bool.{true}
 use mathlib.Core.Option.{Option, none, some}
 use mathlib.Core.List.{List, [], _∷_, _++_, append-assoc, append-nil}
-use lib.ListN.{length, take, drop, length-append, length-drop, drop-of-length-le}
-use lib.Seq.{drop-drop}
+use lib.ListN.{length, take, drop, length-append, length-drop}
 use Rattle.terms.specs.Lists.{each, total, there, over}
 use Rattle.terms.proofs.Parts.{length-over, over-append}
 use Rattle.table.specs.Mapping.{Mapping}
-use Rattle.utf8.specs.Utf8.{Character, decode, characters}
-use Rattle.utf8.proofs.Characters.{prepend, characters-nil, characters-more}
-use Rattle.utf8.proofs.Fronts.{decode-fits, there-characters, there-decode}
+use Rattle.utf8.specs.Characters.{Character, Decoder, Decodes, prepend, charactersBy}
+use Rattle.utf8.proofs.Decoders.{decode-drop-fits, characters-drop, there-drop, characters-end}
 use Rattle.decompose.specs.Steps.{expanded, stepsKey, stepsLookups}
 use Rattle.decompose.specs.TableCheck.{unfolds}
 use Rattle.decompose.specs.Promises.{ExpansionCounted, ExpansionFilled}
@@ -23,31 +21,6 @@ use Rattle.decompose.specs.declared.Unfolded.{Unfolded}
 use Rattle.decompose.proofs.Bounds.{lookups-most, expanded-most}
 use Rattle.keys.specs.Keys.{unicodePrepared, roomFor, keyed}
 use Rattle.keys.specs.Summaries.{preparedNumbers}
-
--- ---- the characters at a place of a text
-
--- a character at a place takes an octet or more, and no more than are left
-pub decode-drop-fits : (t : List ℕ) (at : ℕ) (ch : Character) → at ≤ length t → decode (drop at t) ≡ some ch
-    → (1 ≤ ch .width) × (at + ch .width ≤ length t)
-decode-drop-fits t at ch h e = omega (arith, decode-fits (drop at t) ch e, length-drop at t)
-
--- the characters from a place on: the one there, and those after it
-characters-drop : (t : List ℕ) (at : ℕ) (ch : Character) → decode (drop at t) ≡ some ch
-    → characters (drop at t) ≡ prepend ch (characters (drop (at + ch .width) t))
-characters-drop t at ch e = characters-more (drop at t) ch e ∙ rw (drop-drop (ch .width) at t)
-
--- of a text that is valid from a place on: it is so after the character there
-pub there-drop : (t : List ℕ) (at : ℕ) (ch : Character) → there (characters (drop at t)) ≡ true → decode (drop at t) ≡ some ch
-    → there (characters (drop (at + ch .width) t)) ≡ true
-there-drop t at ch v e = rw (← drop-drop (ch .width) at t) (sym (there-characters (drop at t) ch e) ∙ v)
-
--- and a character stands there before the end
-pub there-next : (t : List ℕ) (at : ℕ) → there (characters (drop at t)) ≡ true → at < length t → there (decode (drop at t)) ≡ true
-there-next t at v h = there-decode (drop at t) v (omega (arith, length-drop at t))
-
--- at the end there are none
-characters-end : (t : List ℕ) (at : ℕ) → length t ≤ at → characters (drop at t) ≡ some []
-characters-end t at h = rw (drop-of-length-le t h) characters-nil
 
 -- ---- sizing
 
@@ -78,47 +51,47 @@ unfolding stepsKey stepsLookups each total
 valuesFrom-done m t o k = rw (add-zero k, add-zero o)
 
 -- the characters up to a place came to o octets and k lookups: the text's numbers go by these and by the characters that follow
-pub record Sizing (m : Mapping) (t : List ℕ) (at o k : ℕ) : Type 0 where
+pub record Sizing (decode : Decoder) (m : Mapping) (t : List ℕ) (at o k : ℕ) : Type 0 where
   pub passed : at ≤ length t
-  pub values : preparedNumbers (unicodePrepared m t (characters t)) ≡ valuesFrom m t o k (characters (drop at t))
+  pub values : preparedNumbers (unicodePrepared m t (charactersBy decode t)) ≡ valuesFrom m t o k (charactersBy decode (drop at t))
   pub octets : o ≤ 128 * at
   pub asked : k ≤ 258 * at
 
 -- before the first character
-pub sizing-start : (m : Mapping) (t : List ℕ) → Sizing m t 0 0 0
-sizing-start m t = record {
+pub sizing-start : (decode : Decoder) (m : Mapping) (t : List ℕ) → Sizing decode m t 0 0 0
+sizing-start decode m t = record {
   passed = omega arith;
-  values = valuesFrom-start m t (characters t);
+  values = valuesFrom-start m t (charactersBy decode t);
   octets = omega arith;
   asked = omega arith;
 }
 
-module _ (m : Mapping) (t : List ℕ) (at o k : ℕ) (w : Sizing m t at o k) where
+module _ {decode : Decoder} (d : Decodes decode) {m : Mapping} {t : List ℕ} {at o k : ℕ} (w : Sizing decode m t at o k) where
   -- one character more
   pub sizing-more : ((c : ℕ) → unfolds m c ≡ true) → (ch : Character) (r : Unfolded) → decode (drop at t) ≡ some ch
       → ExpansionCounted m (ch .code) r
-      → Sizing m t (at + ch .width) (o + r .octets) (k + r .asks)
+      → Sizing decode m t (at + ch .width) (o + r .octets) (k + r .asks)
   sizing-more ok ch r e counted =
-      let fits = decode-drop-fits t at ch (w .passed) e in
+      let fits = decode-drop-fits d t at ch (w .passed) e in
       record {
         passed = fits .1;
         values =
             w .values
-            ∙ ap (valuesFrom m t o k) (characters-drop t at ch e)
-            ∙ valuesFrom-more m t o k ch r (characters (drop (at + ch .width) t)) counted;
+            ∙ ap (valuesFrom m t o k) (characters-drop d t at ch e)
+            ∙ valuesFrom-more m t o k ch r (charactersBy decode (drop (at + ch .width) t)) counted;
         octets = omega (arith, w .octets, fits .0, counted .octets, expanded-most m ok (ch .code));
         asked = omega (arith, w .asked, fits .0, counted .asked, lookups-most m ok (ch .code));
       }
 
   -- every character was sized
-  pub sizing-done : length t ≤ at → preparedNumbers (unicodePrepared m t (characters t)) ≡ 1 ∷ k ∷ o ∷ 1 ∷ []
-  sizing-done h = w .values ∙ ap (valuesFrom m t o k) (characters-end t at h) ∙ valuesFrom-done m t o k
+  pub sizing-done : length t ≤ at → preparedNumbers (unicodePrepared m t (charactersBy decode t)) ≡ 1 ∷ k ∷ o ∷ 1 ∷ []
+  sizing-done h = w .values ∙ ap (valuesFrom m t o k) (characters-end d t at h) ∙ valuesFrom-done m t o k
 
 -- ---- writing
 
 -- a text's key under collation 3
-abbrev keyFor : Mapping → List ℕ → List ℕ
-keyFor m t = unicodePrepared m t (characters t) .key
+abbrev keyFor : Decoder → Mapping → List ℕ → List ℕ
+keyFor decode m t = unicodePrepared m t (charactersBy decode t) .key
 
 -- the key of a valid text: the octets of its first character, and the key of what follows that
 key-prepend : (m : Mapping) (t rest : List ℕ) (ch : Character) (o : Option (List Character)) → there (prepend ch o) ≡ true
@@ -128,9 +101,10 @@ key-prepend m t rest ch none e = cc
 key-prepend m t rest ch (some chs) e = refl
 
 -- where nothing follows, nothing is left of the key
-key-end : (m : Mapping) (t : List ℕ) (at : ℕ) → length t ≤ at → keyFor m (drop at t) ≡ []
+key-end : {decode : Decoder} (d : Decodes decode) (m : Mapping) (t : List ℕ) (at : ℕ) → length t ≤ at
+    → keyFor decode m (drop at t) ≡ []
 unfolding stepsKey each
-key-end m t at h = ap (λ (o : Option (List Character)). unicodePrepared m (drop at t) o .key) (characters-end t at h)
+key-end d m t at h = ap (λ (o : Option (List Character)). unicodePrepared m (drop at t) o .key) (characters-end d t at h)
 
 -- a valid text's key belongs in the buffer
 keyed-there : (m : Mapping) (t buffer : List ℕ) (o : Option (List Character)) → there o ≡ true
@@ -145,65 +119,67 @@ roomFor-there m t none e = cc
 roomFor-there m t (some chs) e = refl
 
 -- the characters up to a place were written: the key is their octets, and the key of what follows, which is valid
-pub record Writing (m : Mapping) (t buffer : List ℕ) (at end : ℕ) (after : List ℕ) : Type 0 where
+pub record Writing (decode : Decoder) (m : Mapping) (t buffer : List ℕ) (at end : ℕ) (after : List ℕ) : Type 0 where
   pub passed : at ≤ length t
-  pub valid : there (characters (drop at t)) ≡ true
+  pub valid : there (charactersBy decode (drop at t)) ≡ true
   pub octets : List ℕ
   pub count : end ≡ length octets
   pub written : after ≡ over octets buffer
-  pub whole : keyFor m t ≡ octets ++ keyFor m (drop at t)
+  pub whole : keyFor decode m t ≡ octets ++ keyFor decode m (drop at t)
 
 -- before the first character
-pub writing-start : (m : Mapping) (t buffer : List ℕ) → there (characters t) ≡ true → Writing m t buffer 0 0 buffer
-writing-start m t buffer e = record { passed = omega arith; valid = e; octets = []; count = refl; written = refl; whole = refl }
+pub writing-start : (decode : Decoder) (m : Mapping) (t buffer : List ℕ) → there (charactersBy decode t) ≡ true
+    → Writing decode m t buffer 0 0 buffer
+writing-start decode m t buffer e = record { passed = omega arith; valid = e; octets = []; count = refl; written = refl; whole = refl }
 
-module _ (m : Mapping) (t buffer : List ℕ) (at end : ℕ) (after : List ℕ) (w : Writing m t buffer at end after) where
+module _ {decode : Decoder} (d : Decodes decode) {m : Mapping} {t buffer : List ℕ} {at end : ℕ} {after : List ℕ}
+    (w : Writing decode m t buffer at end after) where
   -- the key of what follows: the octets of its first character, and the key of the rest
   rest-more : (ch : Character) → decode (drop at t) ≡ some ch
-      → keyFor m (drop at t) ≡ expanded m (ch .code) ++ keyFor m (drop (at + ch .width) t)
+      → keyFor decode m (drop at t) ≡ expanded m (ch .code) ++ keyFor decode m (drop (at + ch .width) t)
   rest-more ch e =
-      let split = characters-drop t at ch e in
+      let split = characters-drop d t at ch e in
       let rest = drop (at + ch .width) t in
       ap (λ (o : Option (List Character)). unicodePrepared m (drop at t) o .key) split
-      ∙ key-prepend m (drop at t) rest ch (characters rest) (ap there (sym split) ∙ w .valid)
+      ∙ key-prepend m (drop at t) rest ch (charactersBy decode rest) (ap there (sym split) ∙ w .valid)
 
   -- and the whole key
   whole-more : (ch : Character) → decode (drop at t) ≡ some ch
-      → keyFor m t ≡ w .octets ++ expanded m (ch .code) ++ keyFor m (drop (at + ch .width) t)
+      → keyFor decode m t ≡ w .octets ++ expanded m (ch .code) ++ keyFor decode m (drop (at + ch .width) t)
   whole-more ch e =
       w .whole
       ∙ ap (λ (l : List ℕ). w .octets ++ l) (rest-more ch e)
-      ∙ sym (append-assoc (w .octets) (expanded m (ch .code)) (keyFor m (drop (at + ch .width) t)))
+      ∙ sym (append-assoc (w .octets) (expanded m (ch .code)) (keyFor decode m (drop (at + ch .width) t)))
 
   -- one character more, written into what follows the octets so far
   pub writing-more : (ch : Character) (r : Unfolded) (last : List ℕ) → decode (drop at t) ≡ some ch
       → ExpansionFilled m (ch .code) (drop end after) r last
-      → Writing m t buffer (at + ch .width) (end + r .octets) (take end after ++ last)
+      → Writing decode m t buffer (at + ch .width) (end + r .octets) (take end after ++ last)
   writing-more ch r last e filled =
       record {
-        passed = decode-drop-fits t at ch (w .passed) e .1;
-        valid = there-drop t at ch (w .valid) e;
+        passed = decode-drop-fits d t at ch (w .passed) e .1;
+        valid = sym (there-drop d t at ch e) ∙ w .valid;
         octets = w .octets ++ expanded m (ch .code);
         count = omega (arith, w .count, filled .counted .octets, length-append (w .octets) (expanded m (ch .code)));
         written = rw (filled .written, w .written, w .count) (over-append (w .octets) (expanded m (ch .code)) buffer);
         whole = whole-more ch e;
       }
 
-  module _ (valid : there (characters t) ≡ true) where
+  module _ (valid : there (charactersBy decode t) ≡ true) where
     -- every character was written
-    pub writing-done : length t ≤ at → after ≡ keyed (unicodePrepared m t (characters t)) buffer
+    pub writing-done : length t ≤ at → after ≡ keyed (unicodePrepared m t (charactersBy decode t)) buffer
     writing-done h =
-        let all : keyFor m t ≡ w .octets =
-        w .whole ∙ ap (λ (l : List ℕ). w .octets ++ l) (key-end m t at h) ∙ append-nil (w .octets) in
-        w .written ∙ ap (λ (l : List ℕ). over l buffer) (sym all) ∙ sym (keyed-there m t buffer (characters t) valid)
+        let all : keyFor decode m t ≡ w .octets =
+        w .whole ∙ ap (λ (l : List ℕ). w .octets ++ l) (key-end d m t at h) ∙ append-nil (w .octets) in
+        w .written ∙ ap (λ (l : List ℕ). over l buffer) (sym all) ∙ sym (keyed-there m t buffer (charactersBy decode t) valid)
 
-    module _ (room : roomFor (unicodePrepared m t (characters t)) ≤ length buffer) where
+    module _ (room : roomFor (unicodePrepared m t (charactersBy decode t)) ≤ length buffer) where
       -- room for the whole key, and so for the octets so far
-      whole-room : length (keyFor m t) ≤ length buffer
-      whole-room = rw (← roomFor-there m t (characters t) valid) room
+      whole-room : length (keyFor decode m t) ≤ length buffer
+      whole-room = rw (← roomFor-there m t (charactersBy decode t) valid) room
 
       octets-room : length (w .octets) ≤ length buffer
-      octets-room = omega (arith, whole-room, ap length (w .whole), length-append (w .octets) (keyFor m (drop at t)))
+      octets-room = omega (arith, whole-room, ap length (w .whole), length-append (w .octets) (keyFor decode m (drop at t)))
 
       -- the buffer keeps its length
       pub writing-length : length after ≡ length buffer
@@ -217,7 +193,7 @@ module _ (m : Mapping) (t buffer : List ℕ) (at end : ℕ) (after : List ℕ) (
       pub writing-room : (ch : Character) → decode (drop at t) ≡ some ch
           → length (expanded m (ch .code)) ≤ length (drop end after)
       writing-room ch e =
-          let rest = keyFor m (drop (at + ch .width) t) in
+          let rest = keyFor decode m (drop (at + ch .width) t) in
           omega (
             arith,
             whole-room,

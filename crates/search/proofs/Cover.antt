@@ -2,27 +2,23 @@
 -- start of character i up to the start of character j, and covers the part of the key from s up to e where the characters before
 -- i have at most s octets of the key and those before j at least e.
 -- Assumes nothing.
-use mathlib.Core.Path.{_≡_, refl, ap, ap₂, _∙_}
+use mathlib.Core.Path.{_≡_, refl, ap₂, _∙_}
 use Prim.Native.Nat.{ℕ, zero, suc, pred, _+_, _-_, _≤_, _<_}
 use native.Mathlib.Decide.{decLt}
 use native.Mathlib.Nat.{zero-add}
 use native.Mathlib.Omega.{arith}
-use mathlib.Core.Option.{Option, some}
+use mathlib.Core.Option.{some}
 use mathlib.Core.List.{List, [], _∷_}
 use lib.ListN.{length, take}
 use lib.Seq.{take-nil}
 use Rattle.terms.specs.Lists.{each, total}
 use Rattle.table.specs.Mapping.{Mapping}
-use Rattle.utf8.specs.Utf8.{Character, characters}
+use Rattle.utf8.specs.Characters.{Character}
 use Rattle.decompose.specs.Steps.{stepsKey}
-use Rattle.terms.specs.declared.Collation.the-variants.{UnicodeCasemap}
-use Rattle.keys.specs.Keys.{unicodePrepared, keyOf}
 use Rattle.occurrence.specs.Occurrence.{occurrence}
 use Rattle.occurrence.proofs.Laws.{occurrence-within}
 use Rattle.search.specs.Covering.{Span, span, holder, fromTo, covering}
-use Rattle.search.specs.Substring.{runIn, textRun}
 use Rattle.search.proofs.Holders.{size, length-key, holder-here, holder-later}
-use Rattle.search.proofs.Seeking.{key-some}
 
 -- where character j begins in the text: the width of the characters before it
 abbrev pub textAt : List Character → ℕ → ℕ
@@ -188,26 +184,18 @@ module _ (m : Mapping) (chs : List Character) (s e : ℕ) (h : s < e) (within : 
 
 -- ---- the run of a hit
 
--- a text that is not empty is found in a valid one under collation 3, first at octet i of its key
-module _ (m : Mapping) (s t : List ℕ) (chs : List Character) (i : ℕ) (valid : characters t ≡ some chs) (text : 0 < length s)
-    (found : occurrence (keyOf UnicodeCasemap m s) (keyOf UnicodeCasemap m t) ≡ some i) where
-  key-is : keyOf UnicodeCasemap m t ≡ stepsKey m chs
-  key-is = ap (λ (o : Option (List Character)). unicodePrepared m t o .key) valid
-
-  named : textRun UnicodeCasemap m t (span i (i + length (keyOf UnicodeCasemap m s))) ≡ covering m chs (span i (i + length (keyOf UnicodeCasemap m s)))
-  named = ap (λ (o : Option (List Character)). runIn m o (span i (i + length (keyOf UnicodeCasemap m s)))) valid
-
-  within-key : i + length (keyOf UnicodeCasemap m s) ≤ length (stepsKey m chs)
-  within-key = omega (arith, occurrence-within (keyOf UnicodeCasemap m s) (keyOf UnicodeCasemap m t) i found, ap length key-is)
+-- what is not empty is found in the key of characters that are there, first at octet i
+module _ (m : Mapping) (needle : List ℕ) (chs : List Character) (i : ℕ) (some-sought : 0 < length needle)
+    (found : occurrence needle (stepsKey m chs) ≡ some i) where
+  within-key : i + length needle ≤ length (stepsKey m chs)
+  within-key = occurrence-within needle (stepsKey m chs) i found
 
   -- the run that the hit names is one of whole characters, and covers that occurrence
-  pub hit-covers : let e = i + length (keyOf UnicodeCasemap m s) in Covers m chs i e (textRun UnicodeCasemap m t (span i e))
-  hit-covers =
-      rw named (covering-covers m chs i (i + length (keyOf UnicodeCasemap m s)) (omega (arith, key-some UnicodeCasemap m s text)) within-key)
+  pub hit-covers : Covers m chs i (i + length needle) (covering m chs (span i (i + length needle)))
+  hit-covers = covering-covers m chs i (i + length needle) (omega arith) within-key
 
   -- and no smaller one does
-  pub hit-least : let e = i + length (keyOf UnicodeCasemap m s) in
-      (a b : ℕ) → a ≤ b → b ≤ length chs → keyAt m chs a ≤ i → e ≤ keyAt m chs b
-      → (textAt chs a ≤ textRun UnicodeCasemap m t (span i e) .start) × (textRun UnicodeCasemap m t (span i e) .end ≤ textAt chs b)
-  hit-least =
-      rw named (covering-least m chs i (i + length (keyOf UnicodeCasemap m s)) (omega (arith, key-some UnicodeCasemap m s text)) within-key)
+  pub hit-least : (a b : ℕ) → a ≤ b → b ≤ length chs → keyAt m chs a ≤ i → i + length needle ≤ keyAt m chs b
+      → (textAt chs a ≤ covering m chs (span i (i + length needle)) .start)
+      × (covering m chs (span i (i + length needle)) .end ≤ textAt chs b)
+  hit-least = covering-least m chs i (i + length needle) (omega arith) within-key

@@ -1,24 +1,26 @@
--- The covering run out of two walks: the second goes on from the character that the first found, and finds what a walk from the
--- start of the text would.
+-- The covering run out of two walks, by every decoder: the second goes on from the character that the first found (`Resumed`), and
+-- finds what a walk from the start of the text would.
 -- Assumes nothing.
-use mathlib.Core.Path.{_≡_, sym, ap, ap₂, _∙_}
+use mathlib.Core.Path.{_≡_, refl, sym, ap, ap₂, _∙_}
 use Prim.Native.Nat.{ℕ, _+_, _-_, _≤_, _<_, pred}
 use native.Mathlib.Decide.{decLt}
 use native.Mathlib.Omega.{arith}
-use mathlib.Core.Option.{Option, some}
+use mathlib.Core.Bool.{true}
+use mathlib.Core.Option.{Option, none, some}
 use mathlib.Core.List.{List, [], _∷_}
 use lib.ListN.{length, drop}
 use lib.Seq.{drop-drop}
 use Rattle.terms.specs.Lists.{there}
 use Rattle.terms.proofs.Tests.{none-some}
 use Rattle.table.specs.Mapping.{Mapping}
-use Rattle.utf8.specs.Utf8.{Character, characters}
+use Rattle.utf8.specs.Characters.{Character, Decoder, Decodes, charactersBy}
+use Rattle.utf8.proofs.Decoders.{characters-cons}
 use Rattle.decompose.specs.Steps.{stepsKey}
 use Rattle.search.specs.Covering.{Span, span, holder, fromTo, covering}
 use Rattle.search.specs.Substring.{runIn}
-use Rattle.search.specs.Promises.{listed, charactersFrom, offsetOf, Ahead, Held, Within}
+use Rattle.search.specs.Promises.{listed, offsetOf, Ahead, Held, Within}
 use Rattle.search.specs.declared.covering.Holder.{Holder}
-use Rattle.search.proofs.Holders.{size, length-key, holder-here, holder-later, offset-here, offset-later, there-some, characters-rest}
+use Rattle.search.proofs.Holders.{size, length-key, holder-here, holder-later, offset-here, offset-later}
 
 -- ---- on from the character that was found
 
@@ -33,30 +35,33 @@ offset-most m k (ch ∷ chs) = go (decLt k (size m ch)) (offset-most m (k - size
     go (no h) rest = omega (arith, offset-later m ch chs k (omega arith))
 
 -- a later octet from a place on, and the length of the key there, seen from the place of octet k's character
-pub record Resumed (m : Mapping) (t : List ℕ) (at k a : ℕ) (chs : List Character) : Type 0 where
+pub record Resumed (decode : Decoder) (m : Mapping) (t : List ℕ) (at k a : ℕ) (chs : List Character) : Type 0 where
   pub rest : List Character
-  pub there : characters (drop a t) ≡ some rest
+  pub there : charactersBy decode (drop a t) ≡ some rest
   pub later : (j : ℕ) → holder m at (k + j) chs ≡ holder m a (offsetOf m k chs + j) rest
   pub octets : length (stepsKey m chs) + offsetOf m k chs ≡ k + length (stepsKey m rest)
 
 -- the octet is the first character's
-resumed-here : (m : Mapping) (t : List ℕ) (at k a : ℕ) (ch : Character) (chs : List Character) → k < size m ch → at ≡ a
-    → characters (drop at t) ≡ some (ch ∷ chs)
-    → Resumed m t at k a (ch ∷ chs)
-resumed-here m t at k a ch chs h is e =
+resumed-here : (decode : Decoder) (m : Mapping) (t : List ℕ) (at k a : ℕ) (ch : Character) (chs : List Character)
+    → k < size m ch
+    → at ≡ a
+    → charactersBy decode (drop at t) ≡ some (ch ∷ chs)
+    → Resumed decode m t at k a (ch ∷ chs)
+resumed-here decode m t at k a ch chs h is e =
     let first = offset-here m ch chs k h in
     record {
       rest = ch ∷ chs;
-      there = ap (λ n. characters (drop n t)) (sym is) ∙ e;
+      there = ap (λ n. charactersBy decode (drop n t)) (sym is) ∙ e;
       later = λ j. rw (first, is);
       octets = omega (arith, first);
     }
 
 -- or a later one's
-resumed-later : (m : Mapping) (t : List ℕ) (at k a : ℕ) (ch : Character) (chs : List Character) → size m ch ≤ k
-    → Resumed m t (at + ch .width) (k - size m ch) a chs
-    → Resumed m t at k a (ch ∷ chs)
-resumed-later m t at k a ch chs h r =
+resumed-later : (decode : Decoder) (m : Mapping) (t : List ℕ) (at k a : ℕ) (ch : Character) (chs : List Character)
+    → size m ch ≤ k
+    → Resumed decode m t (at + ch .width) (k - size m ch) a chs
+    → Resumed decode m t at k a (ch ∷ chs)
+resumed-later decode m t at k a ch chs h r =
     let on = offset-later m ch chs k h in
     record {
       rest = r .rest;
@@ -68,60 +73,70 @@ resumed-later m t at k a ch chs h r =
     }
 
 -- the walk may go on from the character that was found
-pub resume : (m : Mapping) (t : List ℕ) (chs : List Character) (at k a b : ℕ) → characters (drop at t) ≡ some chs
+pub resume : {decode : Decoder} (d : Decodes decode) (m : Mapping) (t : List ℕ) (chs : List Character) (at k a b : ℕ)
+    → charactersBy decode (drop at t) ≡ some chs
     → holder m at k chs ≡ some (span a b)
-    → Resumed m t at k a chs
+    → Resumed decode m t at k a chs
 unfolding holder
-resume m t [] at k a b e found = absurd (none-some (span a b) found)
-resume m t (ch ∷ chs) at k a b e found = go (decLt k (size m ch)) (resume m t chs (at + ch .width) (k - size m ch) a b)
+resume d m t [] at k a b e found = absurd (none-some (span a b) found)
+resume {decode} d m t (ch ∷ chs) at k a b e found =
+    go (decLt k (size m ch)) (resume d m t chs (at + ch .width) (k - size m ch) a b)
   where
-    next : characters (drop (at + ch .width) t) ≡ some chs
-    next = rw (← drop-drop (ch .width) at t) (characters-rest (drop at t) ch chs e)
+    next : charactersBy decode (drop (at + ch .width) t) ≡ some chs
+    next = rw (← drop-drop (ch .width) at t) (characters-cons d (drop at t) ch chs e .1)
 
     go : Dec (k < size m ch)
-        → (characters (drop (at + ch .width) t) ≡ some chs → holder m (at + ch .width) (k - size m ch) chs ≡ some (span a b)
-        → Resumed m t (at + ch .width) (k - size m ch) a chs)
-        → Resumed m t at k a (ch ∷ chs)
+        → (charactersBy decode (drop (at + ch .width) t) ≡ some chs
+        → holder m (at + ch .width) (k - size m ch) chs ≡ some (span a b)
+        → Resumed decode m t (at + ch .width) (k - size m ch) a chs)
+        → Resumed decode m t at k a (ch ∷ chs)
     go (yes h) on =
         let here : some (span at (at + ch .width)) ≡ some (span a b) = sym (holder-here m ch chs at k h) ∙ found in
         let same : span at (at + ch .width) ≡ span a b = cc in
-        resumed-here m t at k a ch chs h (ap (λ (s : Span). s .start) same) e
+        resumed-here decode m t at k a ch chs h (ap (λ (s : Span). s .start) same) e
     go (no h) on =
         let past : size m ch ≤ k = omega arith in
-        resumed-later m t at k a ch chs past (on next (sym (holder-later m ch chs at k past) ∙ found))
+        resumed-later decode m t at k a ch chs past (on next (sym (holder-later m ch chs at k past) ∙ found))
 
 -- ---- the covering run
 
-module _ (m : Mapping) (t : List ℕ) (s e : ℕ) (w : Within m t s e) where
+-- what is there
+listed-there : (o : Option (List Character)) → there o ≡ true → o ≡ some (listed o)
+listed-there none e = let z : _≡_ {A = ℕ} 0 1 = cc in absurd (omega arith)
+listed-there (some chs) e = refl
+
+module _ {decode : Decoder} (d : Decodes decode) {m : Mapping} (t : List ℕ) {s e : ℕ} (w : Within m (charactersBy decode t) s e) where
   -- the first octet is within the key
-  pub first-ahead : Ahead m t 0 s
+  pub first-ahead : Ahead m (charactersBy decode t) s
   first-ahead = record { valid = w .valid; below = omega (arith, w .some, w .most) }
 
-  all : characters t ≡ some (listed (characters t))
-  all = let is = there-some (characters t) (w .valid) in is .1 ∙ ap some (sym (ap listed (is .1)))
+  abbrev chs : List Character
+  chs = listed (charactersBy decode t)
 
-  module _ (first : Holder) (h : Held m t 0 s first) where
-    resumed : Resumed m t 0 s (first .start .0) (listed (characters t))
-    resumed = resume m t (listed (characters t)) 0 s (first .start .0) (first .end .0) all (sym (h .place))
+  all : charactersBy decode t ≡ some chs
+  all = listed-there (charactersBy decode t) (w .valid)
+
+  module _ {first : Holder} (h : Held m (charactersBy decode t) 0 s first) where
+    resumed : Resumed decode m t 0 s (first .start .0) chs
+    resumed = resume d m t chs 0 s (first .start .0) (first .end .0) all (sym (h .place))
 
     -- the offset is no more than s
     pub first-offset : first .offset ≤ s
-    first-offset = omega (arith, h .offset, offset-most m s (listed (characters t)))
+    first-offset = omega (arith, h .offset, offset-most m s chs)
 
     -- the last octet is within the key from there on
-    pub last-ahead : Ahead m t (first .start .0) (first .offset + (e - 1 - s))
+    pub last-ahead : Ahead m (charactersBy decode (drop (first .start .0) t)) (first .offset + (e - 1 - s))
     last-ahead =
         let r = resumed in
-        let key : length (stepsKey m (charactersFrom t (first .start .0))) ≡ length (stepsKey m (r .rest)) =
-        ap (λ (o : Option (List Character)). length (stepsKey m (listed o))) (r .there) in
+        let key = ap (λ (o : Option (List Character)). length (stepsKey m (listed o))) (r .there) in
         record { valid = ap there (r .there); below = omega (arith, w .some, w .most, h .offset, r .octets, key) }
 
     -- the two characters make the run
-    pub run-covers : (last : Holder) → Held m t (first .start .0) (first .offset + (e - 1 - s)) last
-        → span (first .start .0) (last .end .0) ≡ runIn m (characters t) (span s e)
+    pub run-covers : {last : Holder}
+        → Held m (charactersBy decode (drop (first .start .0) t)) (first .start .0) (first .offset + (e - 1 - s)) last
+        → span (first .start .0) (last .end .0) ≡ runIn m (charactersBy decode t) (span s e)
     unfolding covering
-    run-covers last l =
-        let chs = listed (characters t) in
+    run-covers {last} l =
         let r = resumed in
         let further : s + (e - 1 - s) ≡ pred e = omega (arith, w .some) in
         let found : some (span (last .start .0) (last .end .0)) ≡ holder m 0 (pred e) chs =

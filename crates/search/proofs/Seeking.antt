@@ -17,7 +17,8 @@ use Rattle.terms.specs.declared.Refusal.{Refusal}
 use Rattle.table.specs.Mapping.{Mapping}
 use Rattle.utf8.specs.Utf8.{Character, encode, encodes, characters}
 use Rattle.utf8.proofs.Encode.{encode-width}
-use Rattle.utf8.proofs.Characters.{characters-sound}
+use Rattle.utf8.proofs.Characters.{utf8-decodes}
+use Rattle.utf8.proofs.Decoders.{characters-empty}
 use Rattle.decompose.specs.Steps.{expansion, stepsKey}
 use Rattle.decompose.proofs.Bounds.{full-some}
 use Rattle.keys.specs.Tables.{Table, mappingT}
@@ -54,7 +55,7 @@ unicode-some m t h = go (characters t) refl
   where
     go : (o : Option (List Character)) → characters t ≡ o → 0 < length (unicodePrepared m t o .key)
     go none e = h
-    go (some []) e = absurd (omega (arith, ap length (characters-sound t [] e .octets)))
+    go (some []) e = absurd (omega (arith, ap length (characters-empty utf8-decodes t e)))
     go (some (ch ∷ chs)) e = omega (arith, size-some m ch, length-key m ch chs)
 
 -- a text that is not empty has a key that is not
@@ -80,10 +81,10 @@ run-nowhere m (some chs) s e = let z : _≡_ {A = ℕ} 0 1 = cc in absurd (omega
 
 module _ (k : Collation) (m : Mapping) (t : List ℕ) (valid : Bool) (s e : ℕ) (h : Hits k m t valid s e) (reads : readsTable k ≡ true) where
   -- where the table is read, a hit in a valid text has a covering run
-  pub hits-within : valid ≡ true → Within m t s e
+  pub hits-within : valid ≡ true → Within m (characters t) s e
   hits-within = go k reads (h .told) (h .most)
     where
-      go : (j : Collation) → readsTable j ≡ true → valid ≡ prepared j m t .valid → e ≤ length (keyOf j m t) → valid ≡ true → Within m t s e
+      go : (j : Collation) → readsTable j ≡ true → valid ≡ prepared j m t .valid → e ≤ length (keyOf j m t) → valid ≡ true → Within m (characters t) s e
       go Octet r told most v = absurd (true≢false (sym r))
       go AsciiCasemap r told most v = absurd (true≢false (sym r))
       go UnicodeCasemap r told most v =

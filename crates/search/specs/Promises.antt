@@ -6,10 +6,10 @@ use mathlib.Core.Bool.{Bool, true, cond}
 use mathlib.Core.Option.{Option, none, some}
 use mathlib.Core.List.{List, [], _∷_}
 use lib.Dec.{ltb}
-use lib.ListN.{length, drop}
+use lib.ListN.{length}
 use Rattle.terms.specs.Lists.{there}
 use Rattle.table.specs.Mapping.{Mapping}
-use Rattle.utf8.specs.Utf8.{Character, characters}
+use Rattle.utf8.specs.Characters.{Character}
 use Rattle.decompose.specs.Steps.{expanded, stepsKey}
 use Rattle.terms.specs.declared.Collation.{Collation}
 use Rattle.keys.specs.Keys.{prepared, keyOf}
@@ -26,10 +26,6 @@ abbrev pub listed : Option (List Character) → List Character
 listed none = []
 listed (some chs) = chs
 
--- the characters of a text from a place on
-abbrev pub charactersFrom : List ℕ → ℕ → List Character
-charactersFrom t from = listed (characters (drop from t))
-
 -- which octet of its character's expansion octet k of a key is
 unfoldable pub offsetOf : Mapping → ℕ → List Character → ℕ
 offsetOf m k [] = k
@@ -38,25 +34,25 @@ offsetOf m k (ch ∷ chs) =
     k
     (offsetOf m (k - length (expanded m (ch .code))) chs)
 
--- from a place on a text is valid, and its key there has more than k octets
-pub record Ahead (m : Mapping) (t : List ℕ) (from k : ℕ) : Type 0 where
-  pub valid : there (characters (drop from t)) ≡ true
-  pub below : k < length (stepsKey m (charactersFrom t from))
+-- characters are there, and their key has more than k octets
+pub record Ahead (m : Mapping) (chs : Option (List Character)) (k : ℕ) : Type 0 where
+  pub valid : there chs ≡ true
+  pub below : k < length (stepsKey m (listed chs))
 
 -- a holder by its three numbers
 abbrev pub holding : ℕ → ℕ → ℕ → Holder
 holding s e o = record { start = record { 0 = s }; end = record { 0 = e }; offset = o }
 
--- the character that holds octet k of the key, both counted from a place on, was found: its place, and which octet it is
-pub record Held (m : Mapping) (t : List ℕ) (from k : ℕ) (r : Holder) : Type 0 where
-  pub place : some (span (r .start .0) (r .end .0)) ≡ holder m from k (charactersFrom t from)
-  pub offset : r .offset ≡ offsetOf m k (charactersFrom t from)
+-- of characters from a place on, the one that holds octet k of their key was found: its place, and which octet it is
+pub record Held (m : Mapping) (chs : Option (List Character)) (from k : ℕ) (r : Holder) : Type 0 where
+  pub place : some (span (r .start .0) (r .end .0)) ≡ holder m from k (listed chs)
+  pub offset : r .offset ≡ offsetOf m k (listed chs)
 
--- a text is valid, and its key has a part from s up to e that is not empty
-pub record Within (m : Mapping) (t : List ℕ) (s e : ℕ) : Type 0 where
-  pub valid : there (characters t) ≡ true
+-- characters are there, and their key has a part from s up to e that is not empty
+pub record Within (m : Mapping) (chs : Option (List Character)) (s e : ℕ) : Type 0 where
+  pub valid : there chs ≡ true
   pub some : s < e
-  pub most : e ≤ length (stepsKey m (listed (characters t)))
+  pub most : e ≤ length (stepsKey m (listed chs))
 
 -- a run by its two ends
 abbrev pub runSpan : Run → Span

@@ -4,6 +4,7 @@ use terms::KeyPosition;
 use terms::TextPosition;
 ghost use mathlib.Core.Path.{_≡_};
 ghost use mathlib.Core.Option.{none};
+ghost use lib.ListN.{drop};
 ghost use Rattle.utf8.specs.Utf8.{characters};
 ghost use Rattle.keys.specs.Tables.{table, mappingT, refusalT};
 ghost use Rattle.search.specs.Covering.{span};
@@ -32,7 +33,7 @@ pub fn cover(
     end: KeyPosition,
 ) -> Run
     requires { ⌜ refusalT (table (now entries) (now pool)) ≡ none ⌝ }
-    requires { ⌜ Within (mappingT (table (now entries) (now pool))) (now text) (start .0) (end .0) ⌝ }
+    requires { ⌜ Within (mappingT (table (now entries) (now pool))) (characters (now text)) (start .0) (end .0) ⌝ }
     ensures { λ r. ⌜ runSpan r ≡ runIn (mappingT (table (now (entries .entry)) (now (pool .entry)))) (characters (now (text .entry))) (span (start .0) (end .0)) ⌝ }
 {
     let s = start.0;
@@ -58,8 +59,8 @@ fn find_holder(
     k: KeyPosition,
 ) -> Holder
     requires { ⌜ refusalT (table (now entries) (now pool)) ≡ none ⌝ }
-    requires { ⌜ Ahead (mappingT (table (now entries) (now pool))) (now text) (from .0) (k .0) ⌝ }
-    ensures { λ r. ⌜ Held (mappingT (table (now (entries .entry)) (now (pool .entry)))) (now (text .entry)) (from .0) (k .0) r ⌝ }
+    requires { ⌜ Ahead (mappingT (table (now entries) (now pool))) (characters (drop (from .0) (now text))) (k .0) ⌝ }
+    ensures { λ r. ⌜ Held (mappingT (table (now (entries .entry)) (now (pool .entry)))) (characters (drop (from .0) (now (text .entry)))) (from .0) (k .0) r ⌝ }
 {
     let mut at = from.0;
     let mut left = k.0;

@@ -5,7 +5,8 @@ use mathlib.Core.Path.{_≡_, refl}
 use mathlib.Core.Bool.{Bool, true}
 use lib.Dec.{isEq}
 use Rattle.terms.specs.Lists.{all, lowest, each, total, begins}
-use Rattle.utf8.specs.Utf8.{encode, two, three, four, decode, charactersAfter, characters}
+use Rattle.utf8.specs.Characters.{charactersAfter, charactersBy}
+use Rattle.utf8.specs.Utf8.{encode, trailed, decode}
 use Rattle.table.specs.Table.{countsBelow, notAbove, formRefusal, entryOf}
 use Rattle.decompose.specs.Levels.{within, full, asks}
 use Rattle.decompose.specs.Steps.{stepsKey, stepsLookups}
@@ -24,5 +25,5 @@ holds e = isEq (orderOf (e .asked) (e .said))
 
 -- the claim
 pub starred-hold : all holds starred ≡ true
-unfolding lowest each total begins encode two three four decode charactersAfter characters countsBelow notAbove formRefusal entryOf within full asks stepsKey stepsLookups tableRefusal prepared callRefusal orderOf occurrence holder covering substringValues starred
+unfolding lowest each total begins encode trailed decode charactersAfter charactersBy countsBelow notAbove formRefusal entryOf within full asks stepsKey stepsLookups tableRefusal prepared callRefusal orderOf occurrence holder covering substringValues starred
 starred-hold = refl

@@ -1,18 +1,18 @@
--- The octets of a code point by its width, and that they decode to it, whatever follows them.
+-- The octets of a code point: by its width, how many there are, and over every width at once: a first octet with the high bits,
+-- and octets that trail with six bits each.
 -- Assumes nothing.
 use mathlib.Core.Path.{_≡_, refl, _∙_, ap}
 use mathlib.Core.Bool.{Bool, true, false, _&&_, not}
-use mathlib.Core.Option.{none, some}
-use mathlib.Core.List.{List, [], _∷_, _++_}
-use Prim.Native.Nat.{ℕ, _+_, _-_, _*_, _/_, _%_, _≤_, _<_}
+use mathlib.Core.List.{List, [], _∷_}
+use Prim.Native.Nat.{ℕ, zero, suc, _+_, _*_, _/_, _%_, _≤_, _<_}
 use native.Mathlib.Omega.{arith}
 use lib.Dec.{leb, ltb}
 use lib.ListN.{length}
-use borrow.Author.Tests.{ltb-true, ltb-false, leb-true, lt-ltb, le-ltb, le-leb}
-use Rattle.terms.proofs.Tests.{both, join}
-use Rattle.utf8.specs.Utf8.{scalar, encode, character, trails, taken, two, three, four, decode}
+use borrow.Author.Tests.{ltb-true, ltb-false, leb-true, lt-ltb, le-ltb}
+use Rattle.terms.proofs.Tests.{both}
+use Rattle.utf8.specs.Utf8.{scalar, encode}
 
--- ---- encode
+-- ---- by its width
 
 -- a code point below 80 is its own octet
 pub encode-one : (c : ℕ) → c < 0x80 → encode c ≡ c ∷ []
@@ -66,139 +66,9 @@ widthBounds c (inFour l) = omega (arith, ap length (encode-four c l))
 pub encode-width : (c : ℕ) → (1 ≤ length (encode c)) × (length (encode c) ≤ 4)
 encode-width c = widthBounds c (widthOf c)
 
--- ---- decode
-
--- an octet 80 to BF trails
-trails-yes : (b : ℕ) → 0x80 ≤ b → b < 0xC0 → trails b ≡ true
-trails-yes b l h = join (leb 0x80 b) (ltb b 0xC0) (le-leb 0x80 b l) (lt-ltb b 0xC0 h)
-
--- no octets decode to nothing
-pub decode-nil : decode [] ≡ none
-unfolding decode
-decode-nil = refl
-
--- the first octet says one octet
-pub decode-one : (a : ℕ) (t : List ℕ) → a < 0x80 → decode (a ∷ t) ≡ some (character a 1)
-unfolding decode
-decode-one a t h = simp (lt-ltb a 0x80 h)
-
--- the first octet is one that trails
-pub decode-trail : (a : ℕ) (t : List ℕ) → 0x80 ≤ a → a < 0xC0 → decode (a ∷ t) ≡ none
-unfolding decode
-decode-trail a t l h = simp (le-ltb a 0x80 l, lt-ltb a 0xC0 h)
-
--- the first octet says two octets
-pub decode-two : (a : ℕ) (t : List ℕ) → 0xC0 ≤ a → a < 0xE0 → decode (a ∷ t) ≡ two (a - 0xC0) t
-unfolding decode
-decode-two a t l h = simp (le-ltb a 0x80 (omega arith), le-ltb a 0xC0 l, lt-ltb a 0xE0 h)
-
--- the first octet says three octets
-pub decode-three : (a : ℕ) (t : List ℕ) → 0xE0 ≤ a → a < 0xF0 → decode (a ∷ t) ≡ three (a - 0xE0) t
-unfolding decode
-decode-three a t l h =
-    simp (le-ltb a 0x80 (omega arith), le-ltb a 0xC0 (omega arith), le-ltb a 0xE0 l, lt-ltb a 0xF0 h)
-
--- the first octet says four octets
-pub decode-four : (a : ℕ) (t : List ℕ) → 0xF0 ≤ a → a < 0xF8 → decode (a ∷ t) ≡ four (a - 0xF0) t
-unfolding decode
-decode-four a t l h =
-    simp (
-      le-ltb a 0x80 (omega arith),
-      le-ltb a 0xC0 (omega arith),
-      le-ltb a 0xE0 (omega arith),
-      le-ltb a 0xF0 l,
-      lt-ltb a 0xF8 h,
-    )
-
--- the first octet says nothing
-pub decode-high : (a : ℕ) (t : List ℕ) → 0xF8 ≤ a → decode (a ∷ t) ≡ none
-unfolding decode
-decode-high a t l =
-    simp (
-      le-ltb a 0x80 (omega arith),
-      le-ltb a 0xC0 (omega arith),
-      le-ltb a 0xE0 (omega arith),
-      le-ltb a 0xF0 (omega arith),
-      le-ltb a 0xF8 l,
-    )
-
--- a scalar code point that is not too low for its width is taken
-taken-yes : (w least c : ℕ) → least ≤ c → scalar c ≡ true → taken w least c ≡ some (character c w)
-taken-yes w least c l s = rw (join (leb least c) (scalar c) (le-leb least c l) s)
-
-two-yes : (x b c : ℕ) (t : List ℕ)
-    → trails b ≡ true
-    → x * 64 + (b - 0x80) ≡ c
-    → 0x80 ≤ c
-    → scalar c ≡ true
-    → two x (b ∷ t) ≡ some (character c 2)
-unfolding two
-two-yes x b c t p e l s = rw (p, e) (taken-yes 2 0x80 c l s)
-
-three-yes : (x b₁ b₂ c : ℕ) (t : List ℕ)
-    → trails b₁ ≡ true
-    → trails b₂ ≡ true
-    → x * 4096 + (b₁ - 0x80) * 64 + (b₂ - 0x80) ≡ c
-    → 0x800 ≤ c
-    → scalar c ≡ true
-    → three x (b₁ ∷ b₂ ∷ t) ≡ some (character c 3)
-unfolding three
-three-yes x b₁ b₂ c t p q e l s = rw (p, q, e) (taken-yes 3 0x800 c l s)
-
-four-yes : (x b₁ b₂ b₃ c : ℕ) (t : List ℕ)
-    → trails b₁ ≡ true
-    → trails b₂ ≡ true
-    → trails b₃ ≡ true
-    → x * 262144 + (b₁ - 0x80) * 4096 + (b₂ - 0x80) * 64 + (b₃ - 0x80) ≡ c
-    → 0x10000 ≤ c
-    → scalar c ≡ true
-    → four x (b₁ ∷ b₂ ∷ b₃ ∷ t) ≡ some (character c 4)
-unfolding four
-four-yes x b₁ b₂ b₃ c t p q r e l s = rw (p, q, r, e) (taken-yes 4 0x10000 c l s)
-
 -- a scalar code point is at most 10FFFF
 pub scalar-most : (c : ℕ) → scalar c ≡ true → c ≤ 0x10FFFF
 scalar-most c s = leb-true c 0x10FFFF (both (leb c 0x10FFFF) (not (leb 0xD800 c && leb c 0xDFFF)) s .0)
-
-decodesOne : (c : ℕ) (t : List ℕ) → c < 0x80 → decode (encode c ++ t) ≡ some (character c (length (encode c)))
-decodesOne c t h = rw (encode-one c h) (decode-one c t h)
-
-decodesTwo : (c : ℕ) (t : List ℕ)
-    → 0x80 ≤ c
-    → c < 0x800
-    → scalar c ≡ true
-    → decode (encode c ++ t) ≡ some (character c (length (encode c)))
-decodesTwo c t l h s =
-    let a : ℕ = 0xC0 + c / 64 in
-    let b : ℕ = 0x80 + c % 64 in
-    rw
-    (encode-two c l h)
-    (decode-two a (b ∷ t) (omega arith) (omega arith)
-    ∙ two-yes (a - 0xC0) b c t (trails-yes b (omega arith) (omega arith)) (omega arith) l s)
-
-decodesThree : (c : ℕ) (t : List ℕ)
-    → 0x800 ≤ c
-    → c < 0x10000
-    → scalar c ≡ true
-    → decode (encode c ++ t) ≡ some (character c (length (encode c)))
-decodesThree c t l h s =
-    let a : ℕ = 0xE0 + c / 4096 in
-    let b₁ : ℕ = 0x80 + c / 64 % 64 in
-    let b₂ : ℕ = 0x80 + c % 64 in
-    rw
-    (encode-three c l h)
-    (decode-three a (b₁ ∷ b₂ ∷ t) (omega arith) (omega arith)
-    ∙ three-yes
-    (a - 0xE0)
-    b₁
-    b₂
-    c
-    t
-    (trails-yes b₁ (omega arith) (omega arith))
-    (trails-yes b₂ (omega arith) (omega arith))
-    (omega arith)
-    l
-    s)
 
 -- a number is its six-bit parts
 pub sixes : (c : ℕ) → c / 262144 * 262144 + c / 4096 % 64 * 4096 + c / 64 % 64 * 64 + c % 64 ≡ c
@@ -210,44 +80,56 @@ sixes c =
     let v : c / 64 * 64 + c % 64 ≡ c = omega arith in
     omega arith
 
-decodesFour : (c : ℕ) (t : List ℕ)
-    → 0x10000 ≤ c
-    → scalar c ≡ true
-    → decode (encode c ++ t) ≡ some (character c (length (encode c)))
-decodesFour c t l s =
-    let m : c ≤ 0x10FFFF = scalar-most c s in
-    let a : ℕ = 0xF0 + c / 262144 in
-    let b₁ : ℕ = 0x80 + c / 4096 % 64 in
-    let b₂ : ℕ = 0x80 + c / 64 % 64 in
-    let b₃ : ℕ = 0x80 + c % 64 in
-    rw
-    (encode-four c l)
-    (decode-four a (b₁ ∷ b₂ ∷ b₃ ∷ t) (omega arith) (omega arith)
-    ∙ four-yes
-    (a - 0xF0)
-    b₁
-    b₂
-    b₃
-    c
-    t
-    (trails-yes b₁ (omega arith) (omega arith))
-    (trails-yes b₂ (omega arith) (omega arith))
-    (trails-yes b₃ (omega arith) (omega arith))
-    (omega (arith, sixes c))
-    l
-    s)
+-- ---- over every width
 
-decodesBy : (c : ℕ) (t : List ℕ)
-    → Width c
-    → scalar c ≡ true
-    → decode (encode c ++ t) ≡ some (character c (length (encode c)))
-decodesBy c t (inOne h) s = decodesOne c t h
-decodesBy c t (inTwo l h) s = decodesTwo c t l h s
-decodesBy c t (inThree l h) s = decodesThree c t l h s
-decodesBy c t (inFour l) s = decodesFour c t l s
+-- the bits of a number above its lowest 6 n
+abbrev pub highBits : ℕ → ℕ → ℕ
+highBits zero c = c
+highBits (suc n) c = highBits n c / 64
 
--- the octets of a scalar code point decode to it, whatever follows them
-pub decode-encode : (c : ℕ) (t : List ℕ)
-    → scalar c ≡ true
-    → decode (encode c ++ t) ≡ some (character c (length (encode c)))
-decode-encode c t s = decodesBy c t (widthOf c) s
+-- n octets that trail, with the lowest 6 n bits of a number
+abbrev pub trailing : ℕ → ℕ → List ℕ
+trailing zero c = []
+trailing (suc n) c = (0x80 + highBits n c % 64) ∷ trailing n c
+
+pub length-trailing : (n c : ℕ) → length (trailing n c) ≡ n
+length-trailing zero c = refl
+length-trailing (suc n) c = ap suc (length-trailing n c)
+
+-- what a first octet a from C0 to F7 says: it carries the bits x, n octets trail, and least is the lowest code point that needs them
+pub data Lead (a x : ℕ) : ℕ → ℕ → Type 0 where
+  leadsTwo : a ≡ 0xC0 + x → x < 0x20 → Lead a x 1 0x80
+  leadsThree : a ≡ 0xE0 + x → x < 0x10 → Lead a x 2 0x800
+  leadsFour : a ≡ 0xF0 + x → x < 0x8 → Lead a x 3 0x10000
+
+-- a code point whose high bits a first octet carries, and which needs the octets that it says
+pub encode-longer : (a x n least c : ℕ) → Lead a x n least → highBits n c ≡ x → least ≤ c → encode c ≡ a ∷ trailing n c
+encode-longer a x n least c (leadsTwo e h) high l =
+    let first : 0xC0 + c / 64 ≡ a = omega arith in
+    encode-two c l (omega arith) ∙ rw first
+encode-longer a x n least c (leadsThree e h) high l =
+    let first : 0xE0 + c / 4096 ≡ a = omega arith in
+    encode-three c l (omega arith) ∙ rw first
+encode-longer a x n least c (leadsFour e h) high l =
+    let first : 0xF0 + c / 262144 ≡ a = omega arith in
+    let second : c / 4096 ≡ c / 64 / 64 = omega arith in
+    encode-four c l ∙ rw (first, second)
+
+-- the first octet of a code point that needs more than one, and what it says
+pub record Longer (c : ℕ) : Type 0 where
+  pub first : ℕ
+  pub count : ℕ
+  pub least : ℕ
+  pub lead : Lead first (highBits count c) count least
+  pub enough : least ≤ c
+
+pub longer : (c : ℕ) → 0x80 ≤ c → c ≤ 0x10FFFF → Longer c
+longer c l m = by (widthOf c)
+  where
+    by : Width c → Longer c
+    by (inOne h) = absurd (omega arith)
+    by (inTwo l h) = record { first = 0xC0 + c / 64; count = 1; least = 0x80; lead = leadsTwo refl (omega arith); enough = l }
+    by (inThree l h) =
+        record { first = 0xE0 + c / 64 / 64; count = 2; least = 0x800; lead = leadsThree refl (omega arith); enough = l }
+    by (inFour l) =
+        record { first = 0xF0 + c / 64 / 64 / 64; count = 3; least = 0x10000; lead = leadsFour refl (omega arith); enough = l }

@@ -1,6 +1,6 @@
 pub mod Characters
 pub mod Decode
-pub mod Defaults
+pub mod Decoders
 pub mod Encode
-pub mod Fronts
-pub mod Standing
+pub mod Places
+pub mod Trailed

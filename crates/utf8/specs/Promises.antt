@@ -9,7 +9,7 @@ use Rattle.terms.specs.Lists.{over}
 use Rattle.utf8.specs.Utf8.{Character, character, encode}
 use Rattle.utf8.specs.declared.Reading.{Reading}
 use Rattle.utf8.specs.declared.Reading.the-variants.{Character as Read, Malformed}
-use Rattle.utf8.specs.declared.Scanned.{Scanned}
+use Rattle.utf8.specs.declared.DecodedCharacter.{DecodedCharacter}
 
 -- the character that a reading is, if it is one
 abbrev pub characterRead : Reading → Option Character
@@ -17,8 +17,8 @@ characterRead (Read c w) = some (character (c .0) w)
 characterRead Malformed = none
 
 -- the character that was read where one stands
-abbrev pub scannedTold : Scanned → Option Character
-scannedTold r = some (character (r .code .0) (r .width))
+abbrev pub characterOf : DecodedCharacter → Character
+characterOf r = character (r .code .0) (r .width)
 
 -- a code point was written at the start of a slice: how many octets it took, and the slice afterwards
 pub record Written (c : ℕ) (slice : List ℕ) (n : ℕ) (after : List ℕ) : Type 0 where

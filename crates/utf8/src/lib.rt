@@ -1,33 +1,32 @@
-// UTF-8 (RFC 3629): characters out of octets, and code points into octets.
-//
-// A text is judged once, by is_valid, which asks nothing of the caller. read_valid asks that a character stands there. Writing
-// asks for a code point of at most 10FFFF hex and for room.
+// UTF-8 (RFC 3629): characters out of octets, and code points into octets. Judging a text asks nothing of the caller, reading
+// that a character stands there, writing a code point of at most 10FFFF hex and room.
 use terms::CodePoint;
 use terms::TextPosition;
 ghost use mathlib.Core.Path.{_≡_};
 ghost use mathlib.Core.Bool.{true};
 ghost use Prim.Native.Nat.{_≤_, _<_};
+ghost use mathlib.Core.Option.{some};
 ghost use mathlib.Core.List.{_∷_};
 ghost use lib.ListN.{length, drop};
 ghost use Rattle.terms.specs.Lists.{there};
-ghost use Rattle.utf8.specs.Utf8.{encode, decode, characters, trails, taken, two, three, four};
-ghost use Rattle.utf8.specs.Promises.{characterRead, scannedTold, Written};
+ghost use Rattle.utf8.specs.Utf8.{encode, decode, characters, trails, trailed, taken};
+ghost use Rattle.utf8.specs.Promises.{characterRead, characterOf, Written};
 
 // A character that was read: its code point, and how many octets it takes.
-pub struct Scanned {
+pub struct DecodedCharacter {
     pub code: CodePoint,
     pub width: usize,
 }
 
 // The character at a position where one stands, as everywhere in a valid text: read without asking again whether it is one.
-pub fn read_valid(text: &[u8], at: TextPosition) -> Scanned
+pub fn read_valid(text: &[u8], at: TextPosition) -> DecodedCharacter
     requires { ⌜ there (decode (drop (at .0) (now text))) ≡ true ⌝ }
-    ensures { λ r. ⌜ scannedTold r ≡ decode (drop (at .0) (now (text .entry))) ⌝ }
+    ensures { λ r. ⌜ some (characterOf r) ≡ decode (drop (at .0) (now (text .entry))) ⌝ }
 {
     let i = at.0;
     let a = wide(text[i]);
     if a < 0x80 {
-        return Scanned {
+        return DecodedCharacter {
             code: CodePoint(a),
             width: 1,
         };
@@ -35,7 +34,7 @@ pub fn read_valid(text: &[u8], at: TextPosition) -> Scanned
     let b = wide(text[i + 1]) - 0x80;
     if a < 0xE0 {
         let code = (a - 0xC0) * 64 + b;
-        return Scanned {
+        return DecodedCharacter {
             code: CodePoint(code),
             width: 2,
         };
@@ -43,14 +42,14 @@ pub fn read_valid(text: &[u8], at: TextPosition) -> Scanned
     let c = wide(text[i + 2]) - 0x80;
     if a < 0xF0 {
         let code = (a - 0xE0) * 4096 + b * 64 + c;
-        return Scanned {
+        return DecodedCharacter {
             code: CodePoint(code),
             width: 3,
         };
     }
     let d = wide(text[i + 3]) - 0x80;
     let code = (a - 0xF0) * 262144 + b * 4096 + c * 64 + d;
-    Scanned {
+    DecodedCharacter {
         code: CodePoint(code),
         width: 4,
     }
@@ -163,7 +162,7 @@ fn is_trailing(octet: u32) -> bool
 
 // The character of a code point that was read from `width` octets, if it needs that many and is scalar.
 fn accept(width: usize, least: u32, c: u32) -> Reading
-    ensures { λ r. ⌜ characterRead r ≡ taken width least c ⌝ }
+    ensures { λ r. ⌜ characterRead r ≡ taken width least (some c) ⌝ }
 {
     if c < least {
         return Reading::Malformed;
@@ -197,7 +196,7 @@ fn read_longer(a: u32, rest: &[u8]) -> Reading
 // The character of two octets whose first carries the bits x.
 fn read_two(x: u32, rest: &[u8]) -> Reading
     requires { ⌜ x < 0x20 ⌝ }
-    ensures { λ r. ⌜ characterRead r ≡ two x (now (rest .entry)) ⌝ }
+    ensures { λ r. ⌜ characterRead r ≡ taken 2 0x80 (trailed 1 x (now (rest .entry))) ⌝ }
 {
     if rest.len() < 1 {
         return Reading::Malformed;
@@ -212,7 +211,7 @@ fn read_two(x: u32, rest: &[u8]) -> Reading
 // The character of three octets whose first carries the bits x.
 fn read_three(x: u32, rest: &[u8]) -> Reading
     requires { ⌜ x < 0x10 ⌝ }
-    ensures { λ r. ⌜ characterRead r ≡ three x (now (rest .entry)) ⌝ }
+    ensures { λ r. ⌜ characterRead r ≡ taken 3 0x800 (trailed 2 x (now (rest .entry))) ⌝ }
 {
     if rest.len() < 2 {
         return Reading::Malformed;
@@ -230,7 +229,7 @@ fn read_three(x: u32, rest: &[u8]) -> Reading
 // The character of four octets whose first carries the bits x.
 fn read_four(x: u32, rest: &[u8]) -> Reading
     requires { ⌜ x < 0x8 ⌝ }
-    ensures { λ r. ⌜ characterRead r ≡ four x (now (rest .entry)) ⌝ }
+    ensures { λ r. ⌜ characterRead r ≡ taken 4 0x10000 (trailed 3 x (now (rest .entry))) ⌝ }
 {
     if rest.len() < 3 {
         return Reading::Malformed;
@@ -241,11 +240,8 @@ fn read_four(x: u32, rest: &[u8]) -> Reading
     if is_trailing(b) {
         if is_trailing(c) {
             if is_trailing(d) {
-                return accept(
-                    4,
-                    0x10000,
-                    x * 262144 + (b - 0x80) * 4096 + (c - 0x80) * 64 + (d - 0x80),
-                );
+                let code = x * 262144 + (b - 0x80) * 4096 + (c - 0x80) * 64 + (d - 0x80);
+                return accept(4, 0x10000, code);
             }
         }
     }

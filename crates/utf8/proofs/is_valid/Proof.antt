@@ -7,13 +7,13 @@ use mathlib.Core.Option.{none, some}
 use Prim.Native.Nat.{ℕ, _+_, _-_, _≤_, _<_}
 use native.Mathlib.Omega.{arith}
 use borrow.Author.Needs.{needs}
-use lib.ListN.{length, drop, length-drop, drop-of-length-le}
-use lib.Seq.{drop-drop}
+use lib.ListN.{length, drop, length-drop}
 use Rattle.terms.specs.Lists.{there}
 use Rattle.utf8.specs.Utf8.{Character, character, decode, characters}
 use Rattle.utf8.specs.Promises.{characterRead}
-use Rattle.utf8.proofs.Characters.{characters-nil, characters-none}
-use Rattle.utf8.proofs.Fronts.{decode-fits, there-characters}
+use Rattle.utf8.specs.Characters.{characters-none}
+use Rattle.utf8.proofs.Characters.{utf8-decodes}
+use Rattle.utf8.proofs.Decoders.{decode-drop-fits, there-drop, characters-end}
 use Rattle.utf8.proofs.is_valid.Statement.{statement}
 use Rattle.utf8.proofs.is_valid.Tie as tie
 
@@ -45,8 +45,7 @@ fits : (c : tie.After-reading Inv-loop μ-loop)
     → (1 ≤ read c .width) × (head c .loop .at + read c .width ≤ length (text-of (head c)))
 fits c =
     let l = head c in
-    let within : l .loop .at ≤ length (text-of l) = l .loop .inv .0 in
-    omega (arith, decode-fits (left-of l) (read c) (decoded c), length-drop (l .loop .at) (text-of l))
+    decode-drop-fits utf8-decodes (text-of l) (l .loop .at) (read c) (l .loop .inv .0) (decoded c)
 
 -- nothing was passed yet
 loop-holds : tie.Need-loop-holds Inv-loop μ-loop
@@ -70,12 +69,8 @@ loop-less c = omega (arith, fits (c .before))
 loop-again : tie.Need-loop-again Inv-loop μ-loop
 loop-again c =
     let r = c .before in
-    let l = head r in (
-      fits r .1,
-      l .loop .inv .1
-          ∙ there-characters (left-of l) (read r) (decoded r)
-          ∙ ap (λ (t : List ℕ). there (characters t)) (drop-drop (read r .width) (l .loop .at) (text-of l)),
-    )
+    let l = head r in
+    (fits r .1, l .loop .inv .1 ∙ there-drop utf8-decodes (text-of l) (l .loop .at) (read r) (decoded r))
 
 enum-told : tie.Need-enum-told Inv-loop μ-loop
 enum-told c = search needs
@@ -87,16 +82,13 @@ returns c =
     let l = called .before .before in
     let e : decode (left-of l) ≡ none = sym (called .read-character .ensures) ∙ ap characterRead (c .enum-told .given .1) in
     let h : 0 < length (left-of l) = omega (arith, called .before .loop-test .taken, length-drop (l .loop .at) (text-of l)) in
-    sym (l .loop .inv .1 ∙ ap there (characters-none (left-of l) e h))
+    sym (l .loop .inv .1 ∙ ap there (characters-none utf8-decodes (left-of l) e h))
 
 -- the end of the text
 returns-2 : tie.Need-returns-2 Inv-loop μ-loop
 returns-2 c =
     let l = c .before in
-    sym
-    (l .loop .inv .1
-    ∙ ap (λ (t : List ℕ). there (characters t)) (drop-of-length-le (text-of l) (c .loop-test .left))
-    ∙ ap there characters-nil)
+    sym (l .loop .inv .1 ∙ ap there (characters-end utf8-decodes (text-of l) (l .loop .at) (c .loop-test .left)))
 
 pub is-valid-spec : {M : Type 1} → statement M
 is-valid-spec =

@@ -7,7 +7,7 @@ use Prim.Native.Nat.{ℕ, _+_, _-_}
 use borrow.Author.Needs.{needs}
 use lib.ListN.{length, take, drop, drop-of-length-le}
 use Rattle.utf8.specs.Utf8.{decode}
-use Rattle.utf8.proofs.Encode.{decode-nil, decode-one}
+use Rattle.utf8.proofs.Decode.{decode-nil, decode-one}
 use Rattle.terms.proofs.Parts.{drop-part}
 use Rattle.utf8.proofs.read_character.Statement.{statement}
 use Rattle.utf8.proofs.read_character.Tie as tie

@@ -1,14 +1,13 @@
--- `utf8::read_four` meets its contract: what is known of the octets after the first says which case of `four` holds.
+-- `utf8::read_four` meets its contract: whether the octets after the first are there and trail says what `trailed` is.
 -- Assumes nothing.
-use mathlib.Core.Path.{_≡_, sym, _∙_}
-use mathlib.Core.Bool.{true, false, _&&_}
-use mathlib.Core.Option.{none}
-use Prim.Native.Nat.{ℕ}
+use mathlib.Core.Path.{_≡_, refl, sym, _∙_, ap}
+use mathlib.Core.Bool.{true, false}
+use Prim.Native.Nat.{ℕ, _+_, _-_, _*_, _≤_}
 use native.Mathlib.Omega.{arith}
 use borrow.Author.Needs.{needs}
-use Rattle.utf8.specs.Utf8.{trails, four}
-use Rattle.utf8.proofs.Decode.{trails-bounds}
-use Rattle.utf8.proofs.Fronts.{Between, four-short, four-taken, four-none}
+use lib.ListN.{length, drop}
+use Rattle.utf8.specs.Utf8.{trails, trailed, taken}
+use Rattle.utf8.proofs.Trailed.{Between, trails-bounds, trailed-zero, trailed-more, trailed-stops, trailed-short}
 use Rattle.utf8.proofs.read_four.Statement.{statement}
 use Rattle.utf8.proofs.read_four.Tie as tie
 
@@ -54,28 +53,36 @@ bounds c =
       trails-bounds (fourth w) (fourth-trails c),
     )
 
--- one of the octets does not trail
-not-taken : (w : tie.After-wide3)
-    → trails (second w) && trails (third w) && trails (fourth w) ≡ false
-    → none ≡ four (start w .args .x) (start w .args .rest .now)
-not-taken w p =
+-- they are there
+long : (w : tie.After-wide3) → 3 ≤ length (start w .args .rest .now)
+long w = w .before .before .before .before .before .before .if1 .left
+
+-- the bits with the second octet's, and with the third's
+abbrev two-bits : tie.After-wide3 → ℕ
+two-bits w = start w .args .x * 64 + (second w - 0x80)
+
+abbrev three-bits : tie.After-wide3 → ℕ
+three-bits w = two-bits w * 64 + (third w - 0x80)
+
+second-trailed : (c : tie.Then2) → let a = start (at-two c) .args in
+    trailed 3 (a .x) (a .rest .now) ≡ trailed 2 (two-bits (at-two c)) (drop 1 (a .rest .now))
+second-trailed c =
+    let w = at-two c in
     let a = start w .args in
-    let u = w .before .before in
-    sym
-    (four-none
-    (a .x)
-    (second w)
-    (third w)
-    (fourth w)
-    (a .rest .now)
-    (u .before .before .wide .ensures)
-    (u .wide2 .ensures)
-    (w .wide3 .ensures)
-    p)
+    trailed-more 2 0 (a .x) (second w) (two-bits w) (a .rest .now) (omega (arith, long w))
+    (w .before .before .before .before .wide .ensures) (second-trails c) refl
+
+third-trailed : (c : tie.Then3) → let a = start (at-three c) .args in
+    trailed 3 (a .x) (a .rest .now) ≡ trailed 1 (three-bits (at-three c)) (drop 2 (a .rest .now))
+third-trailed c =
+    let w = at-three c in
+    second-trailed (c .before .before)
+    ∙ trailed-more 1 1 (two-bits w) (third w) (three-bits w) (start w .args .rest .now) (omega (arith, long w))
+    (w .before .before .wide2 .ensures) (third-trails c) refl
 
 -- too few octets
 returns : tie.Need-returns
-returns c = let a = c .before .before .args in sym (four-short (a .x) (a .rest .now) (c .if1 .taken))
+returns c = let a = c .before .before .args in sym (ap (taken 4 0x10000) (trailed-short 3 (a .x) (a .rest .now) (c .if1 .taken)))
 
 shared-slice-read-wide : tie.Need-shared-slice-read-wide
 shared-slice-read-wide c = search needs
@@ -104,40 +111,40 @@ is-trailing-requires-2 c κs = search needs
 is-trailing-requires-3 : tie.Need-is-trailing-requires-3
 is-trailing-requires-3 c κs = search needs
 
-mul-accept : tie.Need-mul-accept
-mul-accept c = search needs
+mul-code : tie.Need-mul-code
+mul-code c = search needs
 
 -- the second octet's bits
-sub-accept : tie.Need-sub-accept
-sub-accept c = omega (arith, bounds c)
+sub-code : tie.Need-sub-code
+sub-code c = omega (arith, bounds c)
 
 -- the second octet's bits, shifted
-mul-accept-2 : tie.Need-mul-accept-2
-mul-accept-2 c = omega (arith, bounds c)
+mul-code-2 : tie.Need-mul-code-2
+mul-code-2 c = omega (arith, bounds c)
 
 -- with the first octet's bits
-add-accept : tie.Need-add-accept
-add-accept c = omega (arith, bounds c)
+add-code : tie.Need-add-code
+add-code c = omega (arith, bounds c)
 
 -- the third octet's bits
-sub-accept-2 : tie.Need-sub-accept-2
-sub-accept-2 c = omega (arith, bounds c)
+sub-code-2 : tie.Need-sub-code-2
+sub-code-2 c = omega (arith, bounds c)
 
 -- the third octet's bits, shifted
-mul-accept-3 : tie.Need-mul-accept-3
-mul-accept-3 c = omega (arith, bounds c)
+mul-code-3 : tie.Need-mul-code-3
+mul-code-3 c = omega (arith, bounds c)
 
 -- with the bits before
-add-accept-2 : tie.Need-add-accept-2
-add-accept-2 c = omega (arith, bounds c)
+add-code-2 : tie.Need-add-code-2
+add-code-2 c = omega (arith, bounds c)
 
 -- the fourth octet's bits
-sub-accept-3 : tie.Need-sub-accept-3
-sub-accept-3 c = omega (arith, bounds c)
+sub-code-3 : tie.Need-sub-code-3
+sub-code-3 c = omega (arith, bounds c)
 
 -- with the bits before
-add-accept-3 : tie.Need-add-accept-3
-add-accept-3 c = omega (arith, bounds c)
+add-code-3 : tie.Need-add-code-3
+add-code-3 c = omega (arith, bounds c)
 
 accept-requires : tie.Need-accept-requires
 accept-requires c κs = search needs
@@ -148,22 +155,11 @@ returns-2 c =
     let t = c .before in
     let w = at-four t in
     let a = start w .args in
-    let u = w .before .before in
+    let code = a .x * 262144 + (second w - 0x80) * 4096 + (third w - 0x80) * 64 + (fourth w - 0x80) in
+    let fourth-trailed =
+    trailed-more 0 2 (three-bits w) (fourth w) code (a .rest .now) (long w) (w .wide3 .ensures) (fourth-trails t) (omega arith) in
     c .accept .ensures
-    ∙ sym
-    (four-taken
-    (a .x)
-    (second w)
-    (third w)
-    (fourth w)
-    (a .rest .now)
-    (u .before .before .before .before .if1 .left)
-    (u .before .before .wide .ensures)
-    (u .wide2 .ensures)
-    (w .wide3 .ensures)
-    (second-trails (t .before .before .before .before))
-    (third-trails (t .before .before))
-    (fourth-trails t))
+    ∙ sym (ap (taken 4 0x10000) (third-trailed (t .before .before) ∙ fourth-trailed ∙ trailed-zero code (drop 3 (a .rest .now))))
 
 -- the fourth octet does not trail
 returns-3 : tie.Need-returns-3
@@ -171,7 +167,8 @@ returns-3 c =
     let t = c .before .before in
     let w = at-three t in
     let p : trails (fourth w) ≡ false = sym (c .before .is-trailing3 .ensures) ∙ c .if4 .left in
-    not-taken w (rw (second-trails (t .before .before), third-trails t) p)
+    let stops = trailed-stops 0 2 (three-bits w) (fourth w) (start w .args .rest .now) (long w) (w .wide3 .ensures) p in
+    sym (ap (taken 4 0x10000) (third-trailed t ∙ stops))
 
 -- the third octet does not trail
 returns-4 : tie.Need-returns-4
@@ -179,14 +176,19 @@ returns-4 c =
     let t = c .before .before in
     let w = at-two t in
     let p : trails (third w) ≡ false = sym (c .before .is-trailing2 .ensures) ∙ c .if3 .left in
-    not-taken w (rw (second-trails t, p))
+    let stops =
+    trailed-stops 1 1 (two-bits w) (third w) (start w .args .rest .now) (omega (arith, long w)) (w .before .before .wide2 .ensures) p in
+    sym (ap (taken 4 0x10000) (second-trailed t ∙ stops))
 
 -- the second octet does not trail
 returns-5 : tie.Need-returns-5
 returns-5 c =
     let w = c .before .before in
     let p : trails (second w) ≡ false = sym (c .before .is-trailing .ensures) ∙ c .if2 .left in
-    not-taken w (rw p)
+    let a = start w .args in
+    let stops =
+    trailed-stops 2 0 (a .x) (second w) (a .rest .now) (omega (arith, long w)) (w .before .before .before .before .wide .ensures) p in
+    sym (ap (taken 4 0x10000) stops)
 
 pub read-four-spec : {M : Type 1} → statement M
 read-four-spec =
@@ -202,15 +204,15 @@ read-four-spec =
     is-trailing-requires
     is-trailing-requires-2
     is-trailing-requires-3
-    mul-accept
-    sub-accept
-    mul-accept-2
-    add-accept
-    sub-accept-2
-    mul-accept-3
-    add-accept-2
-    sub-accept-3
-    add-accept-3
+    mul-code
+    sub-code
+    mul-code-2
+    add-code
+    sub-code-2
+    mul-code-3
+    add-code-2
+    sub-code-3
+    add-code-3
     accept-requires
     returns-2
     returns-3

@@ -1,14 +1,14 @@
--- `utf8::read_three` meets its contract: what is known of the second and the third octet says which case of `three` holds.
+-- `utf8::read_three` meets its contract: whether the octets after the first are there and trail
+-- says what `trailed` is.
 -- Assumes nothing.
-use mathlib.Core.Path.{_≡_, sym, _∙_}
-use mathlib.Core.Bool.{true, false, _&&_}
-use mathlib.Core.Option.{none}
-use Prim.Native.Nat.{ℕ}
+use mathlib.Core.Path.{_≡_, refl, sym, _∙_, ap}
+use mathlib.Core.Bool.{true, false}
+use Prim.Native.Nat.{ℕ, _+_, _-_, _*_, _≤_}
 use native.Mathlib.Omega.{arith}
 use borrow.Author.Needs.{needs}
-use Rattle.utf8.specs.Utf8.{trails, three}
-use Rattle.utf8.proofs.Decode.{trails-bounds}
-use Rattle.utf8.proofs.Fronts.{Between, three-short, three-taken, three-none}
+use lib.ListN.{length, drop}
+use Rattle.utf8.specs.Utf8.{trails, trailed, taken}
+use Rattle.utf8.proofs.Trailed.{Between, trails-bounds, trailed-zero, trailed-more, trailed-stops, trailed-short}
 use Rattle.utf8.proofs.read_three.Statement.{statement}
 use Rattle.utf8.proofs.read_three.Tie as tie
 
@@ -41,17 +41,25 @@ bounds c =
     let w = at-three c in
     (trails-bounds (second w) (second-trails (c .before .before)), trails-bounds (third w) (third-trails c))
 
--- one of the octets does not trail
-not-taken : (w : tie.After-wide2)
-    → trails (second w) && trails (third w) ≡ false
-    → none ≡ three (start w .args .x) (start w .args .rest .now)
-not-taken w p =
+-- both are there
+long : (w : tie.After-wide2) → 2 ≤ length (start w .args .rest .now)
+long w = w .before .before .before .before .if1 .left
+
+-- the bits with the second octet's
+abbrev two-bits : tie.After-wide2 → ℕ
+two-bits w = start w .args .x * 64 + (second w - 0x80)
+
+second-trailed : (c : tie.Then2) → let a = start (at-two c) .args in
+    trailed 2 (a .x) (a .rest .now) ≡ trailed 1 (two-bits (at-two c)) (drop 1 (a .rest .now))
+second-trailed c =
+    let w = at-two c in
     let a = start w .args in
-    sym (three-none (a .x) (second w) (third w) (a .rest .now) (w .before .before .wide .ensures) (w .wide2 .ensures) p)
+    trailed-more 1 0 (a .x) (second w) (two-bits w) (a .rest .now) (omega (arith, long w)) (w .before .before .wide .ensures)
+    (second-trails c) refl
 
 -- too few octets
 returns : tie.Need-returns
-returns c = let a = c .before .before .args in sym (three-short (a .x) (a .rest .now) (omega arith))
+returns c = let a = c .before .before .args in sym (ap (taken 3 0x800) (trailed-short 2 (a .x) (a .rest .now) (omega arith)))
 
 shared-slice-read-wide : tie.Need-shared-slice-read-wide
 shared-slice-read-wide c = search needs
@@ -103,18 +111,10 @@ returns-2 c =
     let t = c .before in
     let w = at-three t in
     let a = start w .args in
+    let code = a .x * 4096 + (second w - 0x80) * 64 + (third w - 0x80) in
+    let third-trailed = trailed-more 0 1 (two-bits w) (third w) code (a .rest .now) (long w) (w .wide2 .ensures) (third-trails t) (omega arith) in
     c .accept .ensures
-    ∙ sym
-    (three-taken
-    (a .x)
-    (second w)
-    (third w)
-    (a .rest .now)
-    (w .before .before .before .before .if1 .left)
-    (w .before .before .wide .ensures)
-    (w .wide2 .ensures)
-    (second-trails (t .before .before))
-    (third-trails t))
+    ∙ sym (ap (taken 3 0x800) (second-trailed (t .before .before) ∙ third-trailed ∙ trailed-zero code (drop 2 (a .rest .now))))
 
 -- the third octet does not trail
 returns-3 : tie.Need-returns-3
@@ -122,14 +122,17 @@ returns-3 c =
     let t = c .before .before in
     let w = at-two t in
     let p : trails (third w) ≡ false = sym (c .before .is-trailing2 .ensures) ∙ c .if3 .left in
-    not-taken w (rw (second-trails t) p)
+    let stops = trailed-stops 0 1 (two-bits w) (third w) (start w .args .rest .now) (long w) (w .wide2 .ensures) p in
+    sym (ap (taken 3 0x800) (second-trailed t ∙ stops))
 
 -- the second octet does not trail
 returns-4 : tie.Need-returns-4
 returns-4 c =
     let w = c .before .before in
     let p : trails (second w) ≡ false = sym (c .before .is-trailing .ensures) ∙ c .if2 .left in
-    not-taken w (rw p)
+    let a = start w .args in
+    let stops = trailed-stops 1 0 (a .x) (second w) (a .rest .now) (omega (arith, long w)) (w .before .before .wide .ensures) p in
+    sym (ap (taken 3 0x800) stops)
 
 pub read-three-spec : {M : Type 1} → statement M
 read-three-spec =

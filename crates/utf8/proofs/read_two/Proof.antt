@@ -1,12 +1,12 @@
--- `utf8::read_two` meets its contract: what is known of the second octet says which case of `two` holds.
+-- `utf8::read_two` meets its contract: whether the second octet is there and trails says what `trailed` is.
 -- Assumes nothing.
-use mathlib.Core.Path.{_≡_, sym, _∙_}
+use mathlib.Core.Path.{_≡_, refl, sym, _∙_, ap}
 use mathlib.Core.Bool.{true}
 use native.Mathlib.Omega.{arith}
 use borrow.Author.Needs.{needs}
-use Rattle.utf8.specs.Utf8.{trails}
-use Rattle.utf8.proofs.Decode.{trails-bounds}
-use Rattle.utf8.proofs.Fronts.{Between, two-short, two-taken, two-none}
+use lib.ListN.{drop}
+use Rattle.utf8.specs.Utf8.{trails, taken}
+use Rattle.utf8.proofs.Trailed.{Between, trails-bounds, trailed-zero, trailed-more, trailed-stops, trailed-short}
 use Rattle.utf8.proofs.read_two.Statement.{statement}
 use Rattle.utf8.proofs.read_two.Tie as tie
 
@@ -22,7 +22,7 @@ bounds c = trails-bounds (c .before .before .wide .result) (second-trails c)
 
 -- too few octets
 returns : tie.Need-returns
-returns c = let a = c .before .before .args in sym (two-short (a .x) (a .rest .now) (c .if1 .taken))
+returns c = let a = c .before .before .args in sym (ap (taken 2 0x80) (trailed-short 1 (a .x) (a .rest .now) (c .if1 .taken)))
 
 shared-slice-read-wide : tie.Need-shared-slice-read-wide
 shared-slice-read-wide c = search needs
@@ -52,9 +52,9 @@ returns-2 : tie.Need-returns-2
 returns-2 c =
     let w = c .before .before .before in
     let a = start w .args in
-    let long = w .before .before .if1 .left in
-    c .accept .ensures
-    ∙ sym (two-taken (a .x) (w .wide .result) (a .rest .now) long (w .wide .ensures) (second-trails (c .before)))
+    let rest = a .rest .now in
+    let more = trailed-more 0 0 (a .x) (w .wide .result) _ rest (w .before .before .if1 .left) (w .wide .ensures) (second-trails (c .before)) refl in
+    c .accept .ensures ∙ sym (ap (taken 2 0x80) (more ∙ trailed-zero _ (drop 1 rest)))
 
 -- the second octet does not trail
 returns-3 : tie.Need-returns-3
@@ -62,7 +62,7 @@ returns-3 c =
     let w = c .before .before in
     let a = start w .args in
     let p = sym (c .before .is-trailing .ensures) ∙ c .if2 .left in
-    sym (two-none (a .x) (w .wide .result) (a .rest .now) (w .wide .ensures) p)
+    sym (ap (taken 2 0x80) (trailed-stops 0 0 (a .x) (w .wide .result) (a .rest .now) (w .before .before .if1 .left) (w .wide .ensures) p))
 
 pub read-two-spec : {M : Type 1} → statement M
 read-two-spec =

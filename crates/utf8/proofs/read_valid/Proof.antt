@@ -5,8 +5,8 @@ use Prim.Native.Nat.{ℕ, _+_, _≤_, _<_}
 use native.Mathlib.Omega.{arith}
 use borrow.Author.Needs.{needs}
 use lib.ListN.{length, getD}
-use Rattle.utf8.proofs.Fronts.{Between}
-use Rattle.utf8.proofs.Standing.{Standing, standing, standing-is}
+use Rattle.utf8.proofs.Trailed.{Between}
+use Rattle.utf8.proofs.Places.{CharacterAt, there-characterAt, characterAt-is}
 use Rattle.utf8.proofs.read_valid.Statement.{statement}
 use Rattle.utf8.proofs.read_valid.Tie as tie
 
@@ -25,8 +25,8 @@ abbrev third : tie.After-wide4 → tie.After-wide3
 third w = w .before .before .before
 
 -- the character at the position
-standsAt : (s : tie.Start) → Standing (s .args .text .now) (s .args .at .0)
-standsAt s = standing (s .args .text .now) (s .args .at .0) (s .pre)
+character-of : (s : tie.Start) → CharacterAt (s .args .text .now) (s .args .at .0)
+character-of s = there-characterAt (s .args .text .now) (s .args .at .0) (s .pre)
 
 -- the octet k places on is there, and trails
 abbrev Follows : tie.Start → ℕ → Type 0
@@ -36,15 +36,15 @@ Follows s k =
 
 -- what the tests of the first octet say of the next one
 two-there : (c : tie.Else1) → (0xC0 ≤ c .before .wide .result) × Follows (start (c .before)) 1
-two-there c = omega (arith, standsAt (start (c .before)) .octets .second (omega arith))
+two-there c = omega (arith, character-of (start (c .before)) .octets .second (omega arith))
 
 three-there : (c : tie.Else2) → Follows (start (first (c .before))) 2
-three-there c = omega (arith, standsAt (start (first (c .before))) .octets .third (omega arith))
+three-there c = omega (arith, character-of (start (first (c .before))) .octets .third (omega arith))
 
 four-there : (c : tie.Else3)
     → let w = first (second (c .before)) in
     (w .wide .result < 0xF8) × Follows (start w) 3
-four-there c = omega (arith, standsAt (start (first (second (c .before)))) .octets .fourth (omega arith))
+four-there c = omega (arith, character-of (start (first (second (c .before)))) .octets .fourth (omega arith))
 
 -- so each that was read trails
 b-trails : (w : tie.After-wide2) → Between (w .wide2 .result)
@@ -65,7 +65,7 @@ bounds w = (four-there (w .before .before) .0, b-trails (second (third w)), c-tr
 
 -- an octet is there
 shared-slice-read-wide : tie.Need-shared-slice-read-wide
-shared-slice-read-wide c = omega (arith, standsAt (c .before .before) .octets .first)
+shared-slice-read-wide c = omega (arith, character-of (c .before .before) .octets .first)
 
 wide-requires : tie.Need-wide-requires
 wide-requires c κs = search needs
@@ -73,8 +73,8 @@ wide-requires c κs = search needs
 -- one octet
 returns : tie.Need-returns
 returns c =
-    let s = standsAt (start (c .before)) in
-    standing-is _ _ s _ _ (omega (arith, s .octets .one (omega arith)))
+    let s = character-of (start (c .before)) in
+    characterAt-is _ _ s _ _ (omega (arith, s .octets .one (omega arith)))
 
 -- a second one
 add-wide : tie.Need-add-wide
@@ -101,9 +101,9 @@ add-code c = omega (arith, b-trails (c .before))
 
 returns-2 : tie.Need-returns-2
 returns-2 c =
-    let s = standsAt (start (first (c .before))) in
+    let s = character-of (start (first (c .before))) in
     let q = s .octets .two (omega arith) (omega arith) in
-    standing-is _ _ s _ _ (omega (arith, q, two-there (c .before .before .before), b-trails (c .before)))
+    characterAt-is _ _ s _ _ (omega (arith, q, two-there (c .before .before .before), b-trails (c .before)))
 
 -- a third one
 add-wide-2 : tie.Need-add-wide-2
@@ -134,9 +134,9 @@ add-code-3 c = omega (arith, b-trails (second (c .before)), c-trails (c .before)
 returns-3 : tie.Need-returns-3
 returns-3 c =
     let w = c .before in
-    let s = standsAt (start (first (second w))) in
+    let s = character-of (start (first (second w))) in
     let q = s .octets .three (omega arith) (omega arith) in
-    standing-is _ _ s _ _ (omega (arith, q, b-trails (second w), c-trails w))
+    characterAt-is _ _ s _ _ (omega (arith, q, b-trails (second w), c-trails w))
 
 -- a fourth one
 add-wide-3 : tie.Need-add-wide-3
@@ -172,9 +172,9 @@ add-code-6 c = omega (arith, bounds c)
 
 returns-4 : tie.Need-returns-4
 returns-4 c =
-    let s = standsAt (start (first (second (third c)))) in
+    let s = character-of (start (first (second (third c)))) in
     let q = s .octets .four (omega arith) in
-    standing-is _ _ s _ _ (omega (arith, q, bounds c))
+    characterAt-is _ _ s _ _ (omega (arith, q, bounds c))
 
 pub read-valid-spec : {M : Type 1} → statement M
 read-valid-spec =

@@ -7,9 +7,9 @@ use mathlib.Core.List.{[], _∷_}
 use native.Mathlib.Omega.{arith}
 use borrow.Author.Needs.{needs}
 use lib.ListN.{length, length-set}
+use lib.Seq.{sets-eq}
 use Rattle.utf8.specs.Utf8.{encode}
 use Rattle.utf8.proofs.Encode.{encode-one, encode-two, encode-three, encode-four}
-use Rattle.utf8.proofs.Fronts.{over-one, over-two, over-three, over-four}
 use Rattle.utf8.proofs.write_character.Statement.{statement}
 use Rattle.utf8.proofs.write_character.Tie as tie
 
@@ -58,7 +58,7 @@ same-length c = search needs
 returns : tie.Need-returns
 returns c =
     let n = c .before .args .c .0 in
-    record { count = sym (ap length (one c)); octets = rw (one c) (over-one n (c .before .args .out .now) (one-room c)) }
+    record { count = sym (ap length (one c)); octets = rw (one c) (sets-eq (n ∷ []) (c .before .args .out .now) 0 (one-room c)) }
 
 add-out : tie.Need-add-out
 add-out c = search needs
@@ -90,7 +90,7 @@ returns-2 c =
     let n = a .c .0 in
     record {
       count = sym (ap length (two c));
-      octets = rw (two c) (over-two (0xC0 + n / 64) (0x80 + n % 64) (a .out .now) (two-room c));
+      octets = rw (two c) (sets-eq ((0xC0 + n / 64) ∷ (0x80 + n % 64) ∷ []) (a .out .now) 0 (two-room c));
     }
 
 add-out-3 : tie.Need-add-out-3
@@ -136,7 +136,7 @@ returns-3 c =
       octets =
           rw
           (three c)
-          (over-three (0xE0 + n / 4096) (0x80 + n / 64 % 64) (0x80 + n % 64) (a .out .now) (three-room c));
+          (sets-eq ((0xE0 + n / 4096) ∷ (0x80 + n / 64 % 64) ∷ (0x80 + n % 64) ∷ []) (a .out .now) 0 (three-room c));
     }
 
 add-out-6 : tie.Need-add-out-6
@@ -192,13 +192,7 @@ returns-4 c =
       octets =
           rw
           (four c)
-          (over-four
-          (0xF0 + n / 262144)
-          (0x80 + n / 4096 % 64)
-          (0x80 + n / 64 % 64)
-          (0x80 + n % 64)
-          (a .out .now)
-          (four-room c));
+          (sets-eq ((0xF0 + n / 262144) ∷ (0x80 + n / 4096 % 64) ∷ (0x80 + n / 64 % 64) ∷ (0x80 + n % 64) ∷ []) (a .out .now) 0 (four-room c));
     }
 
 pub write-character-spec : {M : Type 1} → statement M

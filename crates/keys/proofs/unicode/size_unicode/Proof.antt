@@ -2,7 +2,7 @@
 -- `lookups` lookups, and the text's numbers go by these and by what follows (`Sizing`), which is valid. The measure is what is left
 -- of the text.
 -- Assumes nothing.
-use mathlib.Core.Path.{_≡_, sym}
+use mathlib.Core.Path.{_≡_, sym, _∙_}
 use mathlib.Core.Bool.{true}
 use mathlib.Core.List.{List}
 use mathlib.Core.Option.{some}
@@ -12,16 +12,19 @@ use lib.ListN.{length, drop}
 use Rattle.terms.specs.Lists.{there}
 use Rattle.terms.specs.Refusals.{textMost}
 use Rattle.table.specs.Mapping.{Mapping}
-use Rattle.table.specs.Table.{mappingOf}
-use Rattle.utf8.specs.Utf8.{Character, character, decode, characters}
+use Rattle.keys.specs.Tables.{table, mappingT}
+use Rattle.utf8.specs.Utf8.{Character, decode, characters}
+use Rattle.utf8.specs.Promises.{characterOf}
+use Rattle.utf8.proofs.Characters.{utf8-decodes}
+use Rattle.utf8.proofs.Decoders.{decode-drop-fits, there-drop, there-next}
 use Rattle.decompose.proofs.Demand3.{accepted-all}
-use Rattle.keys.proofs.Walks.{decode-drop-fits, there-drop, there-next, Sizing, sizing-start, sizing-more, sizing-done}
+use Rattle.keys.proofs.Walks.{Sizing, sizing-start, sizing-more, sizing-done}
 use Rattle.keys.proofs.unicode.size_unicode.Statement.{statement}
 use Rattle.keys.proofs.unicode.size_unicode.Tie as tie
 
 abbrev Inv-loop : tie.InvT-loop
 Inv-loop text entries pool at₀ octets₀ lookups₀ at octets lookups =
-    Sizing (mappingOf entries pool) text at octets lookups × (there (characters (drop at text)) ≡ true)
+    Sizing decode (mappingT (table entries pool)) text at octets lookups × (there (characters (drop at text)) ≡ true)
 
 abbrev μ-loop : tie.MeasureT-loop
 μ-loop text entries pool at₀ octets₀ lookups₀ at octets lookups = length text - at
@@ -31,7 +34,7 @@ abbrev start : tie.At-loop Inv-loop μ-loop → tie.Start Inv-loop μ-loop
 start l = l .before .before .before .before
 
 abbrev mapping : tie.At-loop Inv-loop μ-loop → Mapping
-mapping l = mappingOf (start l .args .entries .now) (start l .args .pool .now)
+mapping l = mappingT (table (start l .args .entries .now) (start l .args .pool .now))
 
 abbrev text-of : tie.At-loop Inv-loop μ-loop → List ℕ
 text-of l = start l .args .text .now
@@ -41,7 +44,7 @@ abbrev head : tie.After-read-valid Inv-loop μ-loop → tie.At-loop Inv-loop μ-
 head c = c .before .before
 
 abbrev read : tie.After-read-valid Inv-loop μ-loop → Character
-read c = character (c .read-valid .result .code .0) (c .read-valid .result .width)
+read c = characterOf (c .read-valid .result)
 
 decoded : (c : tie.After-read-valid Inv-loop μ-loop) → decode (drop (head c .loop .at) (text-of (head c))) ≡ some (read c)
 decoded c = sym (c .read-valid .ensures)
@@ -50,7 +53,7 @@ decoded c = sym (c .read-valid .ensures)
 more : (c : tie.After-size-expansion Inv-loop μ-loop)
     → let r = c .before in
     let l = head r in
-    Sizing (mapping l) (text-of l)
+    Sizing decode (mapping l) (text-of l)
     (l .loop .at + read r .width)
     (l .loop .octets + c .size-expansion .result .octets)
     (l .loop .lookups + c .size-expansion .result .asks)
@@ -58,8 +61,7 @@ more c =
     let r = c .before in
     let l = head r in
     let accepted = accepted-all (start l .args .entries .now) (start l .args .pool .now) (start l .pre .1 .0) in
-    sizing-more (mapping l) (text-of l) (l .loop .at) (l .loop .octets) (l .loop .lookups) (l .loop .inv .0) accepted (read r)
-    (c .size-expansion .result) (decoded r) (c .size-expansion .ensures)
+    sizing-more utf8-decodes (l .loop .inv .0) accepted (read r) (c .size-expansion .result) (decoded r) (c .size-expansion .ensures)
 
 -- so they are few
 few : (c : tie.After-size-expansion Inv-loop μ-loop)
@@ -74,13 +76,13 @@ few c =
 
 -- before the first character
 loop-holds : tie.Need-loop-holds Inv-loop μ-loop
-loop-holds c = (sizing-start _ _, c .before .before .before .pre .1 .1)
+loop-holds c = (sizing-start _ _ _, c .before .before .before .pre .1 .1)
 
 -- a character follows
 read-valid-requires : tie.Need-read-valid-requires Inv-loop μ-loop
 read-valid-requires c κs =
     let l = c .before in
-    there-next (text-of l) (l .loop .at) (l .loop .inv .1) (c .loop-test .taken)
+    there-next utf8-decodes (text-of l) (l .loop .at) (l .loop .inv .1) (c .loop-test .taken)
 
 -- the table is accepted
 size-expansion-requires : tie.Need-size-expansion-requires Inv-loop μ-loop
@@ -101,7 +103,7 @@ loop-less : tie.Need-loop-less Inv-loop μ-loop
 loop-less c =
     let r = c .before .before .before .before in
     let l = head r in
-    omega (arith, decode-drop-fits (text-of l) (l .loop .at) (read r) (l .loop .inv .0 .passed) (decoded r))
+    omega (arith, decode-drop-fits utf8-decodes (text-of l) (l .loop .at) (read r) (l .loop .inv .0 .passed) (decoded r))
 
 -- one character more
 loop-again : tie.Need-loop-again Inv-loop μ-loop
@@ -109,14 +111,11 @@ loop-again c =
     let sized = c .before .before .before in
     let r = sized .before in
     let l = head r in
-    (more sized, there-drop (text-of l) (l .loop .at) (read r) (l .loop .inv .1) (decoded r))
+    (more sized, sym (there-drop utf8-decodes (text-of l) (l .loop .at) (read r) (decoded r)) ∙ l .loop .inv .1)
 
 -- the end of the text
 returns : tie.Need-returns Inv-loop μ-loop
-returns c =
-    let l = c .before in
-    sym
-    (sizing-done (mapping l) (text-of l) (l .loop .at) (l .loop .octets) (l .loop .lookups) (l .loop .inv .0) (c .loop-test .left))
+returns c = sym (sizing-done utf8-decodes (c .before .loop .inv .0) (c .loop-test .left))
 
 pub size-unicode-spec : {M : Type 1} → statement M
 size-unicode-spec =

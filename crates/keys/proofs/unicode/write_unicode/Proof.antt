@@ -11,17 +11,19 @@ use native.Mathlib.Omega.{arith}
 use lib.ListN.{length, take, drop}
 use Rattle.terms.proofs.Parts.{take-drop, put-back}
 use Rattle.table.specs.Mapping.{Mapping}
-use Rattle.table.specs.Table.{mappingOf}
-use Rattle.utf8.specs.Utf8.{Character, character, decode}
-use Rattle.utf8.proofs.Decode.{decode-sound}
+use Rattle.keys.specs.Tables.{table, mappingT}
+use Rattle.utf8.specs.Utf8.{Character, decode}
+use Rattle.utf8.specs.Promises.{characterOf}
+use Rattle.utf8.proofs.Characters.{utf8-decodes}
+use Rattle.utf8.proofs.Decoders.{decode-drop-fits, there-next}
 use Rattle.decompose.proofs.Demand3.{accepted-all}
-use Rattle.keys.proofs.Walks.{decode-drop-fits, there-next, Sizing, sizing-start, sizing-more, sizing-done, Writing, writing-start, writing-more, writing-done, writing-length, writing-end, writing-room}
+use Rattle.keys.proofs.Walks.{Sizing, sizing-start, sizing-more, sizing-done, Writing, writing-start, writing-more, writing-done, writing-length, writing-end, writing-room}
 use Rattle.keys.proofs.unicode.write_unicode.Statement.{statement}
 use Rattle.keys.proofs.unicode.write_unicode.Tie as tie
 
 abbrev Inv-loop : tie.InvT-loop
 Inv-loop text entries pool key₀ at₀ end₀ lookups₀ key at end lookups =
-    Sizing (mappingOf entries pool) text at end lookups × Writing (mappingOf entries pool) text key₀ at end key
+    Sizing decode (mappingT (table entries pool)) text at end lookups × Writing decode (mappingT (table entries pool)) text key₀ at end key
 
 abbrev μ-loop : tie.MeasureT-loop
 μ-loop text entries pool key₀ at₀ end₀ lookups₀ key at end lookups = length text - at
@@ -31,7 +33,7 @@ abbrev start : tie.At-loop Inv-loop μ-loop → tie.Start Inv-loop μ-loop
 start l = l .before .before .before .before .before
 
 abbrev mapping : tie.At-loop Inv-loop μ-loop → Mapping
-mapping l = mappingOf (start l .args .entries .now) (start l .args .pool .now)
+mapping l = mappingT (table (start l .args .entries .now) (start l .args .pool .now))
 
 abbrev text-of : tie.At-loop Inv-loop μ-loop → List ℕ
 text-of l = start l .args .text .now
@@ -40,21 +42,19 @@ text-of l = start l .args .text .now
 same : (l : tie.At-loop Inv-loop μ-loop) → length (l .loop .key) ≡ length (start l .args .key .now)
 same l =
     let s = start l in
-    writing-length (mapping l) (text-of l) (s .args .key .now) (l .loop .at) (l .loop .end) (l .loop .key) (l .loop .inv .1)
-    (s .pre .1 .1 .0) (s .pre .1 .1 .1)
+    writing-length utf8-decodes (l .loop .inv .1) (s .pre .1 .1 .0) (s .pre .1 .1 .1)
 
 within : (l : tie.At-loop Inv-loop μ-loop) → l .loop .end ≤ length (l .loop .key)
 within l =
     let s = start l in
-    writing-end (mapping l) (text-of l) (s .args .key .now) (l .loop .at) (l .loop .end) (l .loop .key) (l .loop .inv .1)
-    (s .pre .1 .1 .0) (s .pre .1 .1 .1)
+    writing-end utf8-decodes (l .loop .inv .1) (s .pre .1 .1 .0) (s .pre .1 .1 .1)
 
 -- where a character was read: the loop's head, and the character
 abbrev head : tie.After-read-valid Inv-loop μ-loop → tie.At-loop Inv-loop μ-loop
 head c = c .before .before
 
 abbrev read : tie.After-read-valid Inv-loop μ-loop → Character
-read c = character (c .read-valid .result .code .0) (c .read-valid .result .width)
+read c = characterOf (c .read-valid .result)
 
 decoded : (c : tie.After-read-valid Inv-loop μ-loop) → decode (drop (head c .loop .at) (text-of (head c))) ≡ some (read c)
 decoded c = sym (c .read-valid .ensures)
@@ -64,7 +64,7 @@ fits : (c : tie.After-read-valid Inv-loop μ-loop)
     → (1 ≤ read c .width) × (head c .loop .at + read c .width ≤ length (text-of (head c)))
 fits c =
     let l = head c in
-    decode-drop-fits (text-of l) (l .loop .at) (read c) (l .loop .inv .1 .passed) (decoded c)
+    decode-drop-fits utf8-decodes (text-of l) (l .loop .at) (read c) (l .loop .inv .1 .passed) (decoded c)
 
 -- where it was written: one character more is written
 abbrev read-at : tie.After-write-expansion Inv-loop μ-loop → tie.After-read-valid Inv-loop μ-loop
@@ -75,21 +75,20 @@ last c = c .write-expansion .last .1 .1 .1 .0
 
 more : (c : tie.After-write-expansion Inv-loop μ-loop)
     → let l = head (read-at c) in
-    Writing (mapping l) (text-of l) (start l .args .key .now)
+    Writing decode (mapping l) (text-of l) (start l .args .key .now)
     (l .loop .at + read (read-at c) .width)
     (l .loop .end + c .write-expansion .result .octets)
     (take (l .loop .end) (l .loop .key) ++ last c)
 more c =
     let r = read-at c in
     let l = head r in
-    writing-more (mapping l) (text-of l) (start l .args .key .now) (l .loop .at) (l .loop .end) (l .loop .key) (l .loop .inv .1)
-    (read r) (c .write-expansion .result) (last c) (decoded r)
+    writing-more utf8-decodes (l .loop .inv .1) (read r) (c .write-expansion .result) (last c) (decoded r)
     (rw (take-drop (l .loop .end) (l .loop .key)) at (c .write-expansion .ensures))
 
 -- and is sized
 sized : (c : tie.After-write-expansion Inv-loop μ-loop)
     → let l = head (read-at c) in
-    Sizing (mapping l) (text-of l)
+    Sizing decode (mapping l) (text-of l)
     (l .loop .at + read (read-at c) .width)
     (l .loop .end + c .write-expansion .result .octets)
     (l .loop .lookups + c .write-expansion .result .asks)
@@ -97,7 +96,7 @@ sized c =
     let r = read-at c in
     let l = head r in
     let accepted = accepted-all (start l .args .entries .now) (start l .args .pool .now) (start l .pre .1 .0) in
-    sizing-more (mapping l) (text-of l) (l .loop .at) (l .loop .end) (l .loop .lookups) (l .loop .inv .0) accepted (read r)
+    sizing-more utf8-decodes (l .loop .inv .0) accepted (read r)
     (c .write-expansion .result) (decoded r) (c .write-expansion .ensures .counted)
 
 -- still within the buffer
@@ -107,24 +106,21 @@ ends : (c : tie.After-write-expansion Inv-loop μ-loop)
 ends c =
     let l = head (read-at c) in
     let s = start l in
-    let at = l .loop .at + read (read-at c) .width in
-    let end = l .loop .end + c .write-expansion .result .octets in
-    let key = take (l .loop .end) (l .loop .key) ++ last c in
     omega (
       arith,
-      writing-end (mapping l) (text-of l) (s .args .key .now) at end key (more c) (s .pre .1 .1 .0) (s .pre .1 .1 .1),
-      writing-length (mapping l) (text-of l) (s .args .key .now) at end key (more c) (s .pre .1 .1 .0) (s .pre .1 .1 .1),
+      writing-end utf8-decodes (more c) (s .pre .1 .1 .0) (s .pre .1 .1 .1),
+      writing-length utf8-decodes (more c) (s .pre .1 .1 .0) (s .pre .1 .1 .1),
     )
 
 -- before the first character
 loop-holds : tie.Need-loop-holds Inv-loop μ-loop
-loop-holds c = (sizing-start _ _, writing-start _ _ _ (c .before .before .before .before .pre .1 .1 .0))
+loop-holds c = (sizing-start _ _ _, writing-start _ _ _ _ (c .before .before .before .before .pre .1 .1 .0))
 
 -- a character follows
 read-valid-requires : tie.Need-read-valid-requires Inv-loop μ-loop
 read-valid-requires c κs =
     let l = c .before in
-    there-next (text-of l) (l .loop .at) (l .loop .inv .1 .valid) (c .loop-test .taken)
+    there-next utf8-decodes (text-of l) (l .loop .at) (l .loop .inv .1 .valid) (c .loop-test .taken)
 
 -- the part that is lent
 sub-write-expansion : tie.Need-sub-write-expansion Inv-loop μ-loop
@@ -144,10 +140,9 @@ write-expansion-requires c κs =
     let s = start l in (
       s .pre .1 .0,
       (
-        decode-sound (drop (l .loop .at) (text-of l)) (read r) (decoded r) .isScalar,
+        utf8-decodes .scalars (drop (l .loop .at) (text-of l)) (read r) (decoded r),
         rw (take-drop (l .loop .end) (l .loop .key))
-            (writing-room (mapping l) (text-of l) (s .args .key .now) (l .loop .at) (l .loop .end) (l .loop .key) (l .loop .inv .1)
-            (s .pre .1 .1 .0) (s .pre .1 .1 .1) (read r) (decoded r)),
+            (writing-room utf8-decodes (l .loop .inv .1) (s .pre .1 .1 .0) (s .pre .1 .1 .1) (read r) (decoded r)),
       ),
     )
 
@@ -189,11 +184,8 @@ returns c =
     let l = c .before in
     let s = start l in
     record {
-      numbers = sym
-          (sizing-done (mapping l) (text-of l) (l .loop .at) (l .loop .end) (l .loop .lookups) (l .loop .inv .0) (c .loop-test .left));
-      left =
-          writing-done (mapping l) (text-of l) (s .args .key .now) (l .loop .at) (l .loop .end) (l .loop .key) (l .loop .inv .1)
-          (s .pre .1 .1 .0) (c .loop-test .left);
+      numbers = sym (sizing-done utf8-decodes (l .loop .inv .0) (c .loop-test .left));
+      left = writing-done utf8-decodes (l .loop .inv .1) (s .pre .1 .1 .0) (c .loop-test .left);
     }
 
 pub write-unicode-spec : {M : Type 1} → statement M

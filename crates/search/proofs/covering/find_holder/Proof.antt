@@ -8,42 +8,34 @@ use Prim.Native.Nat.{ℕ, _+_, _-_, _≤_}
 use native.Mathlib.Omega.{arith}
 use borrow.Author.Needs.{needs}
 use lib.ListN.{length, drop}
-use Rattle.table.specs.Mapping.{Mapping}
-use Rattle.utf8.specs.Utf8.{Character, character, decode}
-use Rattle.keys.proofs.Walks.{decode-drop-fits, there-next}
+use Rattle.utf8.specs.Utf8.{Character, decode}
+use Rattle.utf8.specs.Promises.{characterOf}
+use Rattle.utf8.proofs.Characters.{utf8-decodes}
+use Rattle.utf8.proofs.Decoders.{decode-drop-fits, there-next}
 use Rattle.keys.specs.Tables.{table, mappingT}
 use Rattle.search.proofs.Holders.{Walking, walking-start, walking-more, walking-found, walking-done}
 use Rattle.search.proofs.covering.find_holder.Statement.{statement}
 use Rattle.search.proofs.covering.find_holder.Tie as tie
 
 abbrev Inv-loop : tie.InvT-loop
-Inv-loop text entries pool at₀ left₀ at left = Walking (mappingT (table entries pool)) text at₀ left₀ at left
+Inv-loop text entries pool at₀ left₀ at left = Walking decode (mappingT (table entries pool)) text at₀ left₀ at left
 
 abbrev μ-loop : tie.MeasureT-loop
 μ-loop text entries pool at₀ left₀ at left = length text - at
 
--- at the loop's head: the function's entry, the mapping of the table, and the text
+-- at the loop's head: the function's entry, and the text
 abbrev start : tie.At-loop Inv-loop μ-loop → tie.Start Inv-loop μ-loop
 start l = l .before .before .before .before
 
-abbrev mapping : tie.At-loop Inv-loop μ-loop → Mapping
-mapping l = mappingT (table (start l .args .entries .now) (start l .args .pool .now))
-
 abbrev text-of : tie.At-loop Inv-loop μ-loop → List ℕ
 text-of l = start l .args .text .now
-
-abbrev from-of : tie.At-loop Inv-loop μ-loop → ℕ
-from-of l = start l .args .from .0
-
-abbrev octet-of : tie.At-loop Inv-loop μ-loop → ℕ
-octet-of l = start l .args .k .0
 
 -- where a character was read: the loop's head, and the character
 abbrev head : tie.After-read-valid Inv-loop μ-loop → tie.At-loop Inv-loop μ-loop
 head c = c .before .before
 
 abbrev read : tie.After-read-valid Inv-loop μ-loop → Character
-read c = character (c .read-valid .result .code .0) (c .read-valid .result .width)
+read c = characterOf (c .read-valid .result)
 
 decoded : (c : tie.After-read-valid Inv-loop μ-loop) → decode (drop (head c .loop .at) (text-of (head c))) ≡ some (read c)
 decoded c = sym (c .read-valid .ensures)
@@ -53,17 +45,17 @@ fits : (c : tie.After-read-valid Inv-loop μ-loop) → let l = head c in
     (1 ≤ read c .width) × (l .loop .at + read c .width ≤ length (text-of l))
 fits c =
     let l = head c in
-    decode-drop-fits (text-of l) (l .loop .at) (read c) (omega (arith, c .before .loop-test .taken)) (decoded c)
+    decode-drop-fits utf8-decodes (text-of l) (l .loop .at) (read c) (omega (arith, c .before .loop-test .taken)) (decoded c)
 
 -- before the first character
 loop-holds : tie.Need-loop-holds Inv-loop μ-loop
-loop-holds c = walking-start _ _ _ _ (c .before .before .before .pre .1)
+loop-holds c = walking-start _ _ _ _ _ (c .before .before .before .pre .1)
 
 -- a character follows
 read-valid-requires : tie.Need-read-valid-requires Inv-loop μ-loop
 read-valid-requires c κs =
     let l = c .before in
-    there-next (text-of l) (l .loop .at) (l .loop .inv .ahead .valid) (c .loop-test .taken)
+    there-next utf8-decodes (text-of l) (l .loop .at) (l .loop .inv .ahead .valid) (c .loop-test .taken)
 
 -- the table is accepted
 size-expansion-requires : tie.Need-size-expansion-requires Inv-loop μ-loop
@@ -85,7 +77,7 @@ returns c =
     let r = sized .before in
     let l = head r in
     rw (c .holder-at .ensures)
-    (walking-found (mapping l) (text-of l) (from-of l) (octet-of l) (l .loop .at) (l .loop .left) (l .loop .inv) (read r) (decoded r)
+    (walking-found utf8-decodes (l .loop .inv) (read r) (decoded r)
     (omega (arith, tested .if1 .taken, sized .size-expansion .ensures .octets)))
 
 add-at : tie.Need-add-at Inv-loop μ-loop
@@ -105,19 +97,14 @@ loop-again c =
     let sized = tested .before in
     let r = sized .before in
     let l = head r in
-    walking-more (mapping l) (text-of l) (from-of l) (octet-of l) (l .loop .at) (l .loop .left) (l .loop .inv) (read r) (decoded r)
-    (sized .size-expansion .result .octets) (sized .size-expansion .ensures .octets) (tested .if1 .left)
+    walking-more utf8-decodes (l .loop .inv) (read r) (decoded r) (sized .size-expansion .result .octets) (sized .size-expansion .ensures .octets) (tested .if1 .left)
 
 holder-at-requires-2 : tie.Need-holder-at-requires-2 Inv-loop μ-loop
 holder-at-requires-2 c κs = search needs
 
 -- the end of the text: never so
 returns-2 : tie.Need-returns-2 Inv-loop μ-loop
-returns-2 c =
-    let l = c .before .before in
-    absurd
-    (walking-done (mapping l) (text-of l) (from-of l) (octet-of l) (l .loop .at) (l .loop .left) (l .loop .inv)
-    (c .before .loop-test .left))
+returns-2 c = absurd (walking-done utf8-decodes (c .before .before .loop .inv) (c .before .loop-test .left))
 
 pub find-holder-spec : {M : Type 1} → statement M
 find-holder-spec =

@@ -1,4 +1,5 @@
--- A character that is there, by places: which octets its first octet says are there, and which code point they are.
+-- A character that stands at a place of a text (`CharacterAt`): which octets its first octet says are there, and which code point
+-- they are.
 -- Assumes nothing.
 use mathlib.Core.Path.{_≡_, refl, sym, subst}
 use mathlib.Core.Bool.{true, true≢false}
@@ -13,7 +14,7 @@ use Rattle.terms.specs.Lists.{there}
 use Rattle.utf8.specs.Utf8.{encode, Character, character, decode}
 use Rattle.utf8.proofs.Encode.{Width, inOne, inTwo, inThree, inFour, widthOf, encode-one, encode-two, encode-three, encode-four, scalar-most, sixes}
 use Rattle.utf8.proofs.Decode.{decode-sound}
-use Rattle.utf8.proofs.Fronts.{Between}
+use Rattle.utf8.proofs.Trailed.{Between}
 
 -- n octets that begin with the w octets of the code point c: the first is a, and those that it says follow are b₁, b₂ and b₃.
 -- Six bits an octet, they are c and the bits that mark them, C0 80, E0 80 80 or F0 80 80 80.
@@ -47,17 +48,17 @@ decode-front t ch e =
     (sym (d .octets))
     (rw (d .wide) (frontBy c (drop (length (encode c)) t) (widthOf c) (scalar-most c (d .isScalar))))
 
--- a character that stands at a place of a text, and its octets
-pub record Standing (t : List ℕ) (i : ℕ) : Type 0 where
+-- the character that stands at a place of a text, and its octets
+pub record CharacterAt (t : List ℕ) (i : ℕ) : Type 0 where
   pub ch : Character
   pub read : decode (drop i t) ≡ some ch
   pub octets : Octets (length t - i) (getD t i 0) (getD t (i + 1) 0) (getD t (i + 2) 0) (getD t (i + 3) 0) (ch .code) (ch .width)
 
--- where one is there, it stands
-pub standing : (t : List ℕ) (i : ℕ) → there (decode (drop i t)) ≡ true → Standing t i
-standing t i h = by (decode (drop i t)) refl h
+-- where one is there
+pub there-characterAt : (t : List ℕ) (i : ℕ) → there (decode (drop i t)) ≡ true → CharacterAt t i
+there-characterAt t i h = by (decode (drop i t)) refl h
   where
-    by : (o : Option Character) → decode (drop i t) ≡ o → there o ≡ true → Standing t i
+    by : (o : Option Character) → decode (drop i t) ≡ o → there o ≡ true → CharacterAt t i
     by none e h = absurd (true≢false (sym h))
     by (some ch) e h =
         record {
@@ -70,7 +71,7 @@ standing t i h = by (decode (drop i t)) refl h
         }
 
 -- a code point and a width that the octets give are the character's
-pub standing-is : (t : List ℕ) (i : ℕ) (s : Standing t i) (c w : ℕ)
+pub characterAt-is : (t : List ℕ) (i : ℕ) (s : CharacterAt t i) (c w : ℕ)
     → (c ≡ s .ch .code) × (w ≡ s .ch .width)
     → some (character c w) ≡ decode (drop i t)
-standing-is t i s c w e = rw (e .0, e .1) (sym (s .read))
+characterAt-is t i s c w e = rw (e .0, e .1) (sym (s .read))
