@@ -13,6 +13,7 @@ use Rattle.terms.specs.declared.Collation.{Collation}
 use Rattle.terms.specs.declared.Collation.the-variants.{Octet, AsciiCasemap, UnicodeCasemap}
 use Rattle.utf8.specs.Utf8.{Character, characters}
 use Rattle.utf8.proofs.Characters.{utf8-decodes}
+use Rattle.utf8.proofs.Decoders.{characters-count}
 use Rattle.decompose.proofs.Demand3.{accepted-lookups, accepted-key}
 use Rattle.keys.specs.Tables.{Table, mappingT, refusalT}
 use Rattle.keys.specs.Keys.{prepared, unicodePrepared, tableUnder, roomFor}
@@ -37,7 +38,7 @@ key-most t text accepted = go (characters text) refl
     go : (o : Option (List Character)) → characters text ≡ o
         → roomFor (unicodePrepared (mappingT t) text o) ≤ expansionMost * length text
     go none e = zero-le
-    go (some chs) e = omega (arith, accepted-key (t .entries) (t .pool) accepted chs, characters-count text chs e)
+    go (some chs) e = omega (arith, accepted-key (t .entries) (t .pool) accepted chs, characters-count utf8-decodes text chs e)
 
 -- a buffer that is roomy for a text has room for its key
 pub record Roomy (k : Collation) (n room : ℕ) : Type 0 where
