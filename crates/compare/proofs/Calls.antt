@@ -9,7 +9,7 @@ use Rattle.terms.specs.Refusals.{refused, gives}
 use Rattle.terms.specs.declared.Collation.{Collation}
 use Rattle.terms.specs.declared.Refusal.{Refusal}
 use Rattle.octets.specs.Order.{orderOf}
-use Rattle.keys.specs.Tables.{Table}
+use Rattle.table.specs.Table.{Table}
 use Rattle.keys.specs.Keys.{PreparedText}
 use Rattle.keys.specs.Summaries.{shownAt}
 use Rattle.keys.specs.declared.Summary.{Summary}

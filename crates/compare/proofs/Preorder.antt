@@ -13,7 +13,8 @@ use Rattle.terms.specs.declared.Collation.the-variants.{UnicodeCasemap}
 use Rattle.octets.specs.Order.{orderOf}
 use Rattle.octets.proofs.Order.{AtMost, at-most-trans, at-most-total, order-refl, order-equal, order-flip, order-trans}
 use Rattle.utf8.specs.Utf8.{characters}
-use Rattle.keys.specs.Tables.{Table, mappingT, refusalT}
+use Rattle.table.specs.Table.{Table, mappingOf}
+use Rattle.decompose.specs.TableCheck.{tableRefusal}
 use Rattle.keys.specs.Keys.{PreparedText, keyOf}
 use Rattle.keys.proofs.Validity.{valid-invalid-differ}
 use Rattle.prepare.specs.Calls.{Lent, call, Called}
@@ -115,8 +116,8 @@ answers-total {p} {q} {r} {x} c d = go (at-most-total (p .key) (q .key))
 -- ---- "Under collation 3 a valid and an invalid text are never equal"
 
 -- texts with one key under collation 3 are both valid or both invalid
-same-validity : (t : Table) (x y : List ℕ) → refusalT t ≡ none
-    → keyOf UnicodeCasemap (mappingT t) x ≡ keyOf UnicodeCasemap (mappingT t) y
+same-validity : (t : Table) (x y : List ℕ) → tableRefusal t ≡ none
+    → keyOf UnicodeCasemap (mappingOf t) x ≡ keyOf UnicodeCasemap (mappingOf t) y
     → there (characters x) ≡ there (characters y)
 same-validity t x y ok key = go (there (characters x)) (there (characters y)) refl refl
   where

@@ -9,7 +9,7 @@ use Rattle.terms.specs.Refusals.{Outcome, refused, gives}
 use Rattle.terms.specs.declared.Collation.{Collation}
 use Rattle.octets.specs.Order.{orderOf}
 use Rattle.octets.proofs.Order.{flip}
-use Rattle.keys.specs.Tables.{Table, mappingT}
+use Rattle.table.specs.Table.{Table, mappingOf}
 use Rattle.keys.specs.Keys.{PreparedText, prepared}
 use Rattle.prepare.specs.Calls.{Lent, Call, call, preparedIn, callRefusal, Called}
 use Rattle.prepare.proofs.Answering.{answered-gives}
@@ -55,7 +55,7 @@ module _ {R : Type 0} {outcome : R → Outcome} {number : Ordering → ℕ} {r :
   pub says : {k : Collation} {t : Table} {l m : Lent} {after : List (List ℕ)}
       → Called outcome (comparedValues number) (call (some k) t (l ∷ m ∷ [])) r after
       → isGiven (outcome r) ≡ true
-      → Says outcome number (prepared k (mappingT t) (l .text)) (prepared k (mappingT t) (m .text)) r
+      → Says outcome number (prepared k (mappingOf t) (l .text)) (prepared k (mappingOf t) (m .text)) r
   says {k} {t} {l} {m} {after} h given =
       record { call = call (some k) t (l ∷ m ∷ []); after = after; called = h; texts = refl; given = given }
 

@@ -15,7 +15,7 @@ ghost use lib.ListN.{length};
 ghost use Rattle.terms.specs.Collations.{collationOf};
 ghost use Rattle.terms.specs.Refusals.{textMost};
 ghost use Rattle.octets.specs.Order.{orderOf};
-ghost use Rattle.keys.specs.Tables.{table};
+ghost use Rattle.table.specs.Table.{table};
 ghost use Rattle.keys.specs.Keys.{tableUnder};
 ghost use Rattle.keys.specs.Summaries.{shownAt};
 ghost use Rattle.prepare.specs.Calls.{tableCheck, twoCall, Called, CalledReady};

@@ -29,7 +29,8 @@ use Rattle.terms.proofs.Checks.{answer-given, answer-refused}
 use Rattle.terms.proofs.Injective.{checkOutcome-inj}
 use Rattle.utf8.specs.Utf8.{Character, characters}
 use Rattle.table.specs.Mapping.{Mapping}
-use Rattle.table.specs.Table.{Table, entryCount, refusedAt, formChecks, formRefusal, titleOf, partsOf, mappingOf}
+use Rattle.table.specs.Layout.{entryCount}
+use Rattle.table.specs.Table.{Table, refusedAt, formChecks, formRefusal, titleOf, partsOf, mappingOf}
 use Rattle.decompose.specs.Steps.{stepsKey}
 use Rattle.decompose.specs.TableCheck.{faultyLevel, tableRefusal, tableAnswer}
 use Rattle.decompose.proofs.Demand3.{UnfoldsWell, Sound, accepted-exactly, accepted-level, accepted-lookups, accepted-key}
@@ -133,14 +134,14 @@ module _ (k : Collation) (t : Table) where
 
   -- where none of 1 to 7 applies, 8 at place 1 exactly when the first key belongs in its buffer and is longer, with that length
   pub number-8-first : (l : Lent) (ls : List Lent) → readyRefusal (call (some k) t (l ∷ ls)) ≡ none
-      → let n = roomFor (prepared k (mappingT t) (l .text)) in
+      → let n = roomFor (prepared k (mappingOf t) (l .text)) in
       (callRefusal (call (some k) t (l ∷ ls)) ≡ some (refusal 8 1 n)) ↔ (length (l .buffer) < n)
   number-8-first = eight-first k t
 
   -- else 8 at place 2 exactly when the second does and is
   pub number-8-second : (l o : Lent) → readyRefusal (call (some k) t (l ∷ o ∷ [])) ≡ none
-      → roomFor (prepared k (mappingT t) (l .text)) ≤ length (l .buffer)
-      → let n = roomFor (prepared k (mappingT t) (o .text)) in
+      → roomFor (prepared k (mappingOf t) (l .text)) ≤ length (l .buffer)
+      → let n = roomFor (prepared k (mappingOf t) (o .text)) in
       (callRefusal (call (some k) t (l ∷ o ∷ [])) ≡ some (refusal 8 2 n)) ↔ (length (o .buffer) < n)
   number-8-second = eight-second k t
 
@@ -166,7 +167,7 @@ line-kept {b} {line} h x st e =
 
 -- keys: what is shown of a prepared text is its key
 pub prepare-key : {k : Collation} {t : Table} {l : Lent} {r : Preparation} {after : List ℕ} → Prepares (call (some k) t (l ∷ [])) r after
-    → (s : Summary) → r ≡ Prepared s → shownKey r (l .text) after ≡ keyOf k (mappingT t) (l .text)
+    → (s : Summary) → r ≡ Prepared s → shownKey r (l .text) after ≡ keyOf k (mappingOf t) (l .text)
 prepare-key h s e = shows h e
 
 -- i;octet: the text
@@ -227,12 +228,12 @@ order-transitive = answers-trans
 -- of a call of `equal` or `order` on two texts these are the texts prepared, where it is not refused
 pub equal-says : {k : Collation} {t : Table} {l m : Lent} {r : Equality} {after : List (List ℕ)}
     → Called equalityOutcome equalityValues (call (some k) t (l ∷ m ∷ [])) r after → isGiven (equalityOutcome r) ≡ true
-    → EqualSays (prepared k (mappingT t) (l .text)) (prepared k (mappingT t) (m .text)) r
+    → EqualSays (prepared k (mappingOf t) (l .text)) (prepared k (mappingOf t) (m .text)) r
 equal-says = says
 
 pub order-says : {k : Collation} {t : Table} {l m : Lent} {r : Ordered} {after : List (List ℕ)}
     → Called orderOutcome orderValues (call (some k) t (l ∷ m ∷ [])) r after → isGiven (orderOutcome r) ≡ true
-    → OrderSays (prepared k (mappingT t) (l .text)) (prepared k (mappingT t) (m .text)) r
+    → OrderSays (prepared k (mappingOf t) (l .text)) (prepared k (mappingOf t) (m .text)) r
 order-says = says
 
 module _ {t : Table} {l m : Lent} {after : List (List ℕ)} (apart : there (characters (l .text)) ≡ there (characters (m .text)) → ⊥) where
@@ -247,24 +248,24 @@ module _ {t : Table} {l m : Lent} {after : List (List ℕ)} (apart : there (char
 -- substring, where it is not refused: the text s of l sought in the text u of n
 module _ {k : Collation} {t : Table} {l n : Lent} {r : Sought} {after : List (List ℕ)}
     (h : Called substringOutcome soughtValues (call (some k) t (l ∷ n ∷ [])) r after) (answers : Given (substringOutcome r)) where
-  told : substringOutcome r ≡ gives (substringValues k (mappingT t) (l .text) (n .text))
+  told : substringOutcome r ≡ gives (substringValues k (mappingOf t) (l .text) (n .text))
   told = go (substringOutcome r) refl answers
     where
-      go : (o : Outcome) → substringOutcome r ≡ o → Given o → o ≡ gives (substringValues k (mappingT t) (l .text) (n .text))
+      go : (o : Outcome) → substringOutcome r ≡ o → Given o → o ≡ gives (substringValues k (mappingOf t) (l .text) (n .text))
       go (refused x) e g = absurd g
       go (gives vs) e g = let is = answered-gives h vs e .1 in cc
 
   -- there is no match exactly when the first text's key occurs nowhere in the second's
   pub substring-none : 0 < length (l .text)
-      → (r ≡ NoMatch) ↔ ((i : ℕ) → OccursAt (keyOf k (mappingT t) (l .text)) (keyOf k (mappingT t) (n .text)) i → ⊥)
-  substring-none text = none-exactly k (mappingT t) (l .text) (n .text) r text told
+      → (r ≡ NoMatch) ↔ ((i : ℕ) → OccursAt (keyOf k (mappingOf t) (l .text)) (keyOf k (mappingOf t) (n .text)) i → ⊥)
+  substring-none text = none-exactly k (mappingOf t) (l .text) (n .text) r text told
 
   -- ---- "A hit reports the first occurrence in the key and the smallest run of whole characters that covers it."
 
   -- a hit at these four positions is reported exactly when the first occurrence, with its run, is there
   pub substring-hit : 0 < length (l .text) → (a b : KeyPosition) (c d : TextPosition)
-      → (r ≡ Found a b c d) ↔ Hit k (mappingT t) (l .text) (n .text) (a .0) (b .0) (c .0) (d .0)
-  substring-hit text = match-exactly k (mappingT t) (l .text) (n .text) r text told
+      → (r ≡ Found a b c d) ↔ Hit k (mappingOf t) (l .text) (n .text) (a .0) (b .0) (c .0) (d .0)
+  substring-hit text = match-exactly k (mappingOf t) (l .text) (n .text) r text told
 
   -- both pairs are the same under collations 1 and 2, and under 3 where the second text is invalid
   pub substring-same : 0 < length (l .text) → (a b : KeyPosition) (c d : TextPosition) → r ≡ Found a b c d
@@ -275,7 +276,7 @@ module _ {k : Collation} {t : Table} {l n : Lent} {r : Sought} {after : List (Li
 pub substring-empty : {k : Collation} {t : Table} {buffer : List ℕ} {n : Lent} {r : Sought} {after : List (List ℕ)}
     → Called substringOutcome soughtValues (call (some k) t (lent [] buffer ∷ n ∷ [])) r after → Given (substringOutcome r)
     → r ≡ Found (record { 0 = 0 }) (record { 0 = 0 }) (record { 0 = 0 }) (record { 0 = 0 })
-substring-empty {k} {t} {n} {r} h answers = match-empty k (mappingT t) (n .text) r (told h answers)
+substring-empty {k} {t} {n} {r} h answers = match-empty k (mappingOf t) (n .text) r (told h answers)
 
 -- under collation 3, in a valid text
 module _ {t : Table} {l n : Lent} {r : Sought} {after : List (List ℕ)}
@@ -283,11 +284,11 @@ module _ {t : Table} {l n : Lent} {r : Sought} {after : List (List ℕ)}
     (text : 0 < length (l .text)) {a b : KeyPosition} {c d : TextPosition} (e : r ≡ Found a b c d)
     {chs : List Character} (valid : characters (n .text) ≡ some chs) where
   -- the run is one of whole characters, and covers the occurrence
-  pub substring-covers : Covers (mappingT t) chs (a .0) (b .0) (span (c .0) (d .0))
+  pub substring-covers : Covers (mappingOf t) chs (a .0) (b .0) (span (c .0) (d .0))
   substring-covers = run-covers (substring-hit h answers text a b c d .0 e) text valid
 
   -- it is the smallest: every run of whole characters that covers the occurrence contains it
-  pub substring-smallest : (run : Span) → Covers (mappingT t) chs (a .0) (b .0) run
+  pub substring-smallest : (run : Span) → Covers (mappingOf t) chs (a .0) (b .0) run
       → (run .start ≤ c .0) × (d .0 ≤ run .end)
   substring-smallest = run-least (substring-hit h answers text a b c d .0 e) text valid
 
@@ -348,7 +349,7 @@ module _ {t : Table} {l : Lent} {r : Preparation} {after : List ℕ} (h : Prepar
   -- ---- "every preparation gives exactly that key and count;"
 
   -- a valid text that was prepared: its count, its key's length and the key that is shown are those of the published steps
-  pub prepare-exact : (s : Summary) → r ≡ Prepared s → Exact (mappingT t) chs s (shownKey r (l .text) after)
+  pub prepare-exact : (s : Summary) → r ≡ Prepared s → Exact (mappingOf t) chs s (shownKey r (l .text) after)
   prepare-exact = exact h valid
 
   -- and so within the bounds, for the table was accepted
@@ -361,5 +362,5 @@ module _ {t : Table} {l : Lent} {r : Preparation} {after : List ℕ} (h : Prepar
   -- ---- "one refused for its buffer names that key's length."
 
   -- a refusal with number 8 has place 1 and that length as its detail, and the buffer is shorter
-  pub prepare-short : (x : Refusal) → r ≡ PrepareRefused x → x .number ≡ 8 → Short (mappingT t) chs (l .buffer) x
+  pub prepare-short : (x : Refusal) → r ≡ PrepareRefused x → x .number ≡ 8 → Short (mappingOf t) chs (l .buffer) x
   prepare-short = short h valid

@@ -17,9 +17,9 @@ use Rattle.terms.specs.declared.Collation.{Collation}
 use Rattle.terms.specs.declared.Refusal.{Refusal}
 use Rattle.terms.proofs.Checks.{orElse-none, orElse-assoc}
 use Rattle.terms.proofs.Tests.{none-some}
-use Rattle.table.specs.Table.{entryCount, faultySize, faultyCode, faultyNumber, entryFault, refusedAt, formRefusal}
+use Rattle.table.specs.Layout.{entryCount}
+use Rattle.table.specs.Table.{Table, faultySize, faultyCode, faultyNumber, entryFault, refusedAt, formRefusal, mappingOf}
 use Rattle.decompose.specs.TableCheck.{faultyLevel, tableRefusal}
-use Rattle.keys.specs.Tables.{Table, mappingT, refusalT}
 use Rattle.keys.specs.Keys.{PreparedText, prepared, roomFor}
 use Rattle.prepare.specs.Calls.{Lent, Call, call, lengths, preparedIn, collationCheck, lengthCheck, lengthChecks, tableCheck, readyRefusal, roomCheck, roomChecks, roomRefusal, callRefusal}
 use Rattle.prepare.proofs.CallRefusals.{callRefusal-ready}
@@ -66,18 +66,18 @@ numbers-row false none none (some i) _ = numbers-some 3 7 (refusal 6 0 i) (omega
 numbers-row false none none none (some i) = numbers-some 3 7 (refusal 7 0 i) (omega arith) (omega arith)
 numbers-row false none none none none = numbers-none 3 7
 
-numbers-table : (t : Table) → Numbers 3 7 (refusalT t)
+numbers-table : (t : Table) → Numbers 3 7 (tableRefusal t)
 unfolding tableRefusal formRefusal
 numbers-table t =
-    numbers-row (faultySize (t .entries) (t .pool)) (lowest (faultyCode (t .entries)) (entryCount (t .entries))) (entryFault (t .entries) (t .pool))
+    numbers-row (faultySize t) (lowest (faultyCode (t .entries)) (entryCount (t .entries))) (entryFault t)
     (lowest (faultyNumber (t .pool)) (length (t .pool)))
-    (lowest (faultyLevel (t .entries) (t .pool)) (entryCount (t .entries)))
+    (lowest (faultyLevel t) (entryCount (t .entries)))
 
 numbers-under : (o : Option Collation) (t : Table) → Numbers 3 7 (tableCheck o t)
 numbers-under none t = numbers-none 3 7
 numbers-under (some k) t = go (readsTable k)
   where
-    go : (b : Bool) → Numbers 3 7 (cond b (refusalT t) none)
+    go : (b : Bool) → Numbers 3 7 (cond b (tableRefusal t) none)
     go true = numbers-table t
     go false = numbers-none 3 7
 
@@ -217,23 +217,23 @@ module _ (k : Collation) (t : Table) where
 
   -- 8 of the first text, where 1 to 7 were passed, exactly when its buffer is too short
   pub eight-first : (l : Lent) (ls : List Lent) → readyRefusal (call (some k) t (l ∷ ls)) ≡ none
-      → let n = roomFor (prepared k (mappingT t) (l .text)) in
+      → let n = roomFor (prepared k (mappingOf t) (l .text)) in
       (callRefusal (call (some k) t (l ∷ ls)) ≡ some (refusal 8 1 n)) ↔ (length (l .buffer) < n)
   eight-first l ls ready =
-      let n = roomFor (prepared k (mappingT t) (l .text)) in
+      let n = roomFor (prepared k (mappingOf t) (l .text)) in
       let others = preparedIn (call (some k) t ls) in
       rw (callRefusal-ready (call (some k) t (l ∷ ls)) ready)
       (here-exactly 8 1 n (length (l .buffer)) n (roomChecks 2 ls others) (beyond-rooms 1 2 ls others (omega arith)))
 
   -- and of the second, where the first's is not
   pub eight-second : (l o : Lent) → readyRefusal (call (some k) t (l ∷ o ∷ [])) ≡ none
-      → roomFor (prepared k (mappingT t) (l .text)) ≤ length (l .buffer)
-      → let n = roomFor (prepared k (mappingT t) (o .text)) in
+      → roomFor (prepared k (mappingOf t) (l .text)) ≤ length (l .buffer)
+      → let n = roomFor (prepared k (mappingOf t) (o .text)) in
       (callRefusal (call (some k) t (l ∷ o ∷ [])) ≡ some (refusal 8 2 n)) ↔ (length (o .buffer) < n)
   eight-second l o ready fits =
-      let n = roomFor (prepared k (mappingT t) (o .text)) in
+      let n = roomFor (prepared k (mappingOf t) (o .text)) in
       rw (
         callRefusal-ready (call (some k) t (l ∷ o ∷ [])) ready,
-        le-ltb (length (l .buffer)) (roomFor (prepared k (mappingT t) (l .text))) fits,
+        le-ltb (length (l .buffer)) (roomFor (prepared k (mappingOf t) (l .text))) fits,
       )
       (here-exactly 8 2 n (length (o .buffer)) n none (λ x e f. absurd (none-some x e)))

@@ -16,7 +16,8 @@ use Rattle.terms.specs.declared.Refusal.{Refusal}
 use Rattle.terms.proofs.Tests.{none-some}
 use Rattle.utf8.specs.Utf8.{Character, characters}
 use Rattle.decompose.specs.Steps.{stepsKey}
-use Rattle.keys.specs.Tables.{Table, mappingT, refusalT}
+use Rattle.table.specs.Table.{Table, mappingOf}
+use Rattle.decompose.specs.TableCheck.{tableRefusal}
 use Rattle.keys.specs.Keys.{PreparedText, unicodePrepared, prepared, keyOf}
 use Rattle.keys.specs.Summaries.{summaryNumbers, preparedNumbers}
 use Rattle.keys.specs.declared.Summary.{Summary}
@@ -43,25 +44,25 @@ module _ {k : Collation} {t : Table} {l : Lent} {r : Preparation} {after : List 
   unrefused = answered-gives (h .call) (summaryNumbers s) (ap preparationOutcome e) .0
 
   -- and its numbers are the prepared text's
-  numbers-are : summaryNumbers s ≡ preparedNumbers (prepared k (mappingT t) (l .text))
+  numbers-are : summaryNumbers s ≡ preparedNumbers (prepared k (mappingOf t) (l .text))
   numbers-are = let told = answered-gives (h .call) (summaryNumbers s) (ap preparationOutcome e) .1 in cc
 
   -- it shows its key
-  pub shows : shownKey r (l .text) after ≡ keyOf k (mappingT t) (l .text)
+  pub shows : shownKey r (l .text) after ≡ keyOf k (mappingOf t) (l .text)
   shows = shown-key h unrefused
 
 -- a valid text under collation 3
 module _ {t : Table} {l : Lent} {r : Preparation} {after : List ℕ} (h : Prepares (call (some UnicodeCasemap) t (l ∷ [])) r after) where
   -- its table was accepted
-  pub table-accepted : {s : Summary} → r ≡ Prepared s → refusalT t ≡ none
+  pub table-accepted : {s : Summary} → r ≡ Prepared s → tableRefusal t ≡ none
   table-accepted e = unrefused-table (call (some UnicodeCasemap) t (l ∷ [])) (unrefused h e)
 
   module _ {chs : List Character} (valid : characters (l .text) ≡ some chs) where
-    prepared-valid : prepared UnicodeCasemap (mappingT t) (l .text) ≡ unicodePrepared (mappingT t) (l .text) (some chs)
-    prepared-valid = ap (unicodePrepared (mappingT t) (l .text)) valid
+    prepared-valid : prepared UnicodeCasemap (mappingOf t) (l .text) ≡ unicodePrepared (mappingOf t) (l .text) (some chs)
+    prepared-valid = ap (unicodePrepared (mappingOf t) (l .text)) valid
 
     -- it was prepared: the answer is that of the published steps
-    pub exact : (s : Summary) → r ≡ Prepared s → Exact (mappingT t) chs s (shownKey r (l .text) after)
+    pub exact : (s : Summary) → r ≡ Prepared s → Exact (mappingOf t) chs s (shownKey r (l .text) after)
     exact s e =
         let same = rw prepared-valid at (numbers-are h e) in
         record {
@@ -72,10 +73,10 @@ module _ {t : Table} {l : Lent} {r : Preparation} {after : List ℕ} (h : Prepar
         }
 
     -- it was refused for its buffer: the refusal names that key's length, and the buffer is shorter
-    pub short : (x : Refusal) → r ≡ Refused x → x .number ≡ 8 → Short (mappingT t) chs (l .buffer) x
+    pub short : (x : Refusal) → r ≡ Refused x → x .number ≡ 8 → Short (mappingOf t) chs (l .buffer) x
     short x e n =
         let is = answered-refused (h .call) x (ap preparationOutcome e) in
         let rooms = rw prepared-valid at (eight-rooms (call (some UnicodeCasemap) t (l ∷ [])) x is n) in
-        let needed = length (stepsKey (mappingT t) chs) in
+        let needed = length (stepsKey (mappingOf t) chs) in
         let test = check-some (ltb (length (l .buffer)) needed) 8 1 needed x rooms in
         record { names = test .1; shorter = ltb-true (length (l .buffer)) needed (test .0) }

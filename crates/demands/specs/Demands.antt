@@ -13,11 +13,11 @@ use Rattle.terms.specs.Refusals.{refusal, Outcome, refused, gives}
 use Rattle.terms.specs.declared.Collation.{Collation}
 use Rattle.terms.specs.declared.Refusal.{Refusal}
 use Rattle.table.specs.Mapping.{Mapping}
-use Rattle.table.specs.Table.{entryCount, refusedAt, formChecks}
+use Rattle.table.specs.Layout.{entryCount}
+use Rattle.table.specs.Table.{Table, refusedAt, formChecks}
 use Rattle.utf8.specs.Utf8.{Character}
 use Rattle.decompose.specs.Steps.{stepsKey, stepsLookups}
 use Rattle.decompose.specs.TableCheck.{faultyLevel}
-use Rattle.keys.specs.Tables.{Table}
 use Rattle.keys.specs.Keys.{PreparedText, keyOf}
 use Rattle.keys.specs.declared.Summary.{Summary}
 use Rattle.prepare.specs.Calls.{Lent, Call, lengths, preparedIn, collationCheck, lengthCheck, tableCheck, roomCheck}
@@ -42,7 +42,7 @@ pub record FirstApplies (checks : List (Option Refusal)) (x : Refusal) : Type 0 
 
 -- the checks of a table: 3, 4, 5, 6, 7
 abbrev pub tableChecks : Table → List (Option Refusal)
-tableChecks t = formChecks (t .entries) (t .pool) ++ refusedAt 7 (lowest (faultyLevel (t .entries) (t .pool)) (entryCount (t .entries))) ∷ []
+tableChecks t = formChecks t ++ refusedAt 7 (lowest (faultyLevel t) (entryCount (t .entries))) ∷ []
 
 -- 2 for each text in its order, numbered from a place
 abbrev pub lengthRow : ℕ → List ℕ → List (Option Refusal)

@@ -15,30 +15,31 @@ use Rattle.utf8.specs.Utf8.{Character, characters}
 use Rattle.utf8.proofs.Characters.{utf8-decodes}
 use Rattle.utf8.proofs.Decoders.{characters-count}
 use Rattle.decompose.proofs.Demand3.{accepted-lookups, accepted-key}
-use Rattle.keys.specs.Tables.{Table, mappingT, refusalT}
+use Rattle.table.specs.Table.{Table, mappingOf}
+use Rattle.decompose.specs.TableCheck.{tableRefusal}
 use Rattle.keys.specs.Keys.{prepared, unicodePrepared, tableUnder, roomFor}
 use Rattle.keys.specs.Summaries.{characterCount, roomy}
 
 -- none are counted but under collation 3, and there the table was accepted
 pub prepared-count : (k : Collation) (t : Table) (text : List ℕ) → tableUnder k t ≡ none
-    → prepared k (mappingT t) text .count ≤ 258 * characterCount (characters text)
+    → prepared k (mappingOf t) text .count ≤ 258 * characterCount (characters text)
 prepared-count Octet t text e = zero-le
 prepared-count AsciiCasemap t text e = zero-le
 prepared-count UnicodeCasemap t text e = unicode (characters text)
   where
-    unicode : (o : Option (List Character)) → unicodePrepared (mappingT t) text o .count ≤ 258 * characterCount o
+    unicode : (o : Option (List Character)) → unicodePrepared (mappingOf t) text o .count ≤ 258 * characterCount o
     unicode none = zero-le
-    unicode (some chs) = accepted-lookups (t .entries) (t .pool) e chs
+    unicode (some chs) = accepted-lookups t e chs
 
 -- the key of a text over an accepted table has at most 128 octets for each of the text's
-pub key-most : (t : Table) (text : List ℕ) → refusalT t ≡ none
-    → roomFor (unicodePrepared (mappingT t) text (characters text)) ≤ expansionMost * length text
+pub key-most : (t : Table) (text : List ℕ) → tableRefusal t ≡ none
+    → roomFor (unicodePrepared (mappingOf t) text (characters text)) ≤ expansionMost * length text
 key-most t text accepted = go (characters text) refl
   where
     go : (o : Option (List Character)) → characters text ≡ o
-        → roomFor (unicodePrepared (mappingT t) text o) ≤ expansionMost * length text
+        → roomFor (unicodePrepared (mappingOf t) text o) ≤ expansionMost * length text
     go none e = zero-le
-    go (some chs) e = omega (arith, accepted-key (t .entries) (t .pool) accepted chs, characters-count utf8-decodes text chs e)
+    go (some chs) e = omega (arith, accepted-key t accepted chs, characters-count utf8-decodes text chs e)
 
 -- a buffer that is roomy for a text has room for its key
 pub record Roomy (k : Collation) (n room : ℕ) : Type 0 where

@@ -13,7 +13,8 @@ use Rattle.terms.specs.declared.Collation.{Collation}
 use Rattle.terms.specs.declared.Collation.the-variants.{UnicodeCasemap}
 use Rattle.table.specs.Mapping.{Mapping}
 use Rattle.utf8.specs.Utf8.{Character, characters}
-use Rattle.keys.specs.Tables.{Table, refusalT}
+use Rattle.table.specs.Table.{Table}
+use Rattle.decompose.specs.TableCheck.{tableRefusal}
 use Rattle.keys.specs.Keys.{unicodePrepared, prepared, tableUnder, keyed}
 use Rattle.keys.specs.Summaries.{summaryNumbers, preparedNumbers, KeyFilled}
 use Rattle.keys.specs.declared.Summary.{Summary}
@@ -27,14 +28,14 @@ filled-kept m t buffer none s e h = record { numbers = h; left = refl }
 filled-kept m t buffer (some chs) s e h = absurd (true≢false e)
 
 -- where the table is read, it is the one that was checked
-pub tableUnder-reads : (k : Collation) (t : Table) → readsTable k ≡ true → tableUnder k t ≡ none → refusalT t ≡ none
+pub tableUnder-reads : (k : Collation) (t : Table) → readsTable k ≡ true → tableUnder k t ≡ none → tableRefusal t ≡ none
 tableUnder-reads k t reads h = rw reads at h
 
 -- ---- under collation 3
 
 module _ (k : Collation) (e : k ≡ UnicodeCasemap) where
   -- the table that a call reads is the one that was checked
-  pub tableUnder-unicode : (t : Table) → tableUnder k t ≡ none → refusalT t ≡ none
+  pub tableUnder-unicode : (t : Table) → tableUnder k t ≡ none → tableRefusal t ≡ none
   tableUnder-unicode t h = rw e at h
 
   pub prepared-unicode : (m : Mapping) (t : List ℕ) → prepared k m t ≡ unicodePrepared m t (characters t)

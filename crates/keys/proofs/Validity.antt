@@ -16,7 +16,8 @@ use Rattle.utf8.proofs.Characters.{utf8-decodes, characters-encodes}
 use Rattle.utf8.proofs.Decoders.{characters-scalars}
 use Rattle.decompose.specs.Steps.{expansion, stepsKey}
 use Rattle.decompose.proofs.Demand3.{accepted-expansion-scalar}
-use Rattle.keys.specs.Tables.{Table, mappingT, refusalT}
+use Rattle.table.specs.Table.{Table, mappingOf}
+use Rattle.decompose.specs.TableCheck.{tableRefusal}
 use Rattle.keys.specs.Keys.{unicodePrepared, keyOf}
 use Rattle.terms.specs.declared.Collation.the-variants.{UnicodeCasemap}
 
@@ -78,11 +79,11 @@ differ m ok s t (some chs) none e f v i k =
 
 -- over an accepted table a valid and an invalid text never have equal keys under collation 3
 pub valid-invalid-differ : (t : Table)
-    → refusalT t ≡ none
+    → tableRefusal t ≡ none
     → (x y : List ℕ)
     → there (characters x) ≡ true
     → there (characters y) ≡ false
-    → keyOf UnicodeCasemap (mappingT t) x ≡ keyOf UnicodeCasemap (mappingT t) y
+    → keyOf UnicodeCasemap (mappingOf t) x ≡ keyOf UnicodeCasemap (mappingOf t) y
     → ⊥
 valid-invalid-differ t ok x y v i k =
-    differ (mappingT t) (accepted-expansion-scalar (t .entries) (t .pool) ok) x y (characters x) (characters y) refl refl v i k
+    differ (mappingOf t) (accepted-expansion-scalar t ok) x y (characters x) (characters y) refl refl v i k

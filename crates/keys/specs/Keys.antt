@@ -15,7 +15,8 @@ use Rattle.terms.specs.declared.Refusal.{Refusal}
 use Rattle.table.specs.Mapping.{Mapping}
 use Rattle.utf8.specs.Utf8.{Character, characters}
 use Rattle.decompose.specs.Steps.{stepsKey, stepsLookups}
-use Rattle.keys.specs.Tables.{Table, refusalT}
+use Rattle.table.specs.Table.{Table}
+use Rattle.decompose.specs.TableCheck.{tableRefusal}
 
 -- "octets 61 to 7A hex lowered by 20 hex, the rest kept"
 abbrev pub upper : ℕ → ℕ
@@ -54,7 +55,7 @@ keyOf k m t = prepared k m t .key
 
 -- 3 to 7 under a collation: "Collations 1 and 2 don't read the table. Every public call under 3 checks it."
 abbrev pub tableUnder : Collation → Table → Option Refusal
-tableUnder k t = cond (readsTable k) (refusalT t) none
+tableUnder k t = cond (readsTable k) (tableRefusal t) none
 
 -- the octets of the key buffer that a preparation needs: "a key that belongs in a buffer"
 abbrev pub roomFor : PreparedText → ℕ

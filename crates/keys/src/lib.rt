@@ -11,7 +11,8 @@ ghost use Prim.Native.Nat.{_*_, _≤_};
 ghost use lib.ListN.{length};
 ghost use Rattle.terms.specs.Refusals.{textMost, expansionMost};
 ghost use Rattle.utf8.specs.Utf8.{characters};
-ghost use Rattle.keys.specs.Tables.{table, mappingT, refusalT};
+ghost use Rattle.table.specs.Table.{table, mappingOf};
+ghost use Rattle.decompose.specs.TableCheck.{tableRefusal};
 ghost use Rattle.keys.specs.Keys.{unicodePrepared, prepared, tableUnder, roomFor, keyed};
 ghost use Rattle.keys.specs.Summaries.{summaryNumbers, preparedNumbers, shownAt, roomy, KeyFilled};
 
@@ -36,7 +37,7 @@ pub struct Summary {
 pub fn size_key(collation: Collation, text: &[u8], entries: &[u32], pool: &[u32]) -> Summary
     requires { ⌜ length (now text) ≤ textMost ⌝ }
     requires { ⌜ tableUnder collation (table (now entries) (now pool)) ≡ none ⌝ }
-    ensures { λ r. ⌜ summaryNumbers r ≡ preparedNumbers (prepared collation (mappingT (table (now (entries .entry)) (now (pool .entry)))) (now (text .entry))) ⌝ }
+    ensures { λ r. ⌜ summaryNumbers r ≡ preparedNumbers (prepared collation (mappingOf (table (now (entries .entry)) (now (pool .entry)))) (now (text .entry))) ⌝ }
 {
     match collation {
         Collation::Octet => Summary {
@@ -72,9 +73,9 @@ pub fn write_key(
 )
     requires { ⌜ length (now text) ≤ textMost ⌝ }
     requires { ⌜ tableUnder collation (table (now entries) (now pool)) ≡ none ⌝ }
-    requires { ⌜ summaryNumbers summary ≡ preparedNumbers (prepared collation (mappingT (table (now entries) (now pool))) (now text)) ⌝ }
-    requires { ⌜ roomFor (prepared collation (mappingT (table (now entries) (now pool))) (now text)) ≤ length (now key) ⌝ }
-    ensures { λ _. ⌜ now (key .exit) ≡ keyed (prepared collation (mappingT (table (now (entries .entry)) (now (pool .entry)))) (now (text .entry))) (now (key .entry)) ⌝ }
+    requires { ⌜ summaryNumbers summary ≡ preparedNumbers (prepared collation (mappingOf (table (now entries) (now pool))) (now text)) ⌝ }
+    requires { ⌜ roomFor (prepared collation (mappingOf (table (now entries) (now pool))) (now text)) ≤ length (now key) ⌝ }
+    ensures { λ _. ⌜ now (key .exit) ≡ keyed (prepared collation (mappingOf (table (now (entries .entry)) (now (pool .entry)))) (now (text .entry))) (now (key .entry)) ⌝ }
 {
     match collation {
         Collation::Octet => {}
@@ -102,9 +103,9 @@ pub fn is_roomy(collation: Collation, text_length: usize, room: usize) -> bool
 // Prepares a text under collation 3 in one walk that writes, without sizing its key first: the buffer has room for any.
 pub fn fill_unicode(text: &[u8], entries: &[u32], pool: &[u32], key: &mut [u8]) -> Summary
     requires { ⌜ length (now text) ≤ textMost ⌝ }
-    requires { ⌜ refusalT (table (now entries) (now pool)) ≡ none ⌝ }
+    requires { ⌜ tableRefusal (table (now entries) (now pool)) ≡ none ⌝ }
     requires { ⌜ expansionMost * length (now text) ≤ length (now key) ⌝ }
-    ensures { λ r. ⌜ KeyFilled (unicodePrepared (mappingT (table (now (entries .entry)) (now (pool .entry)))) (now (text .entry)) (characters (now (text .entry)))) (now (key .entry)) r (now (key .exit)) ⌝ }
+    ensures { λ r. ⌜ KeyFilled (unicodePrepared (mappingOf (table (now (entries .entry)) (now (pool .entry)))) (now (text .entry)) (characters (now (text .entry)))) (now (key .entry)) r (now (key .exit)) ⌝ }
 {
     // An invalid text leaves the buffer, so the text is read to its end before the first octet is written.
     if utf8::is_valid(text) {

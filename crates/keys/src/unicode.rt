@@ -11,16 +11,17 @@ ghost use lib.ListN.{length};
 ghost use Rattle.terms.specs.Lists.{there};
 ghost use Rattle.terms.specs.Refusals.{textMost};
 ghost use Rattle.utf8.specs.Utf8.{characters};
-ghost use Rattle.keys.specs.Tables.{table, mappingT, refusalT};
+ghost use Rattle.table.specs.Table.{table, mappingOf};
+ghost use Rattle.decompose.specs.TableCheck.{tableRefusal};
 ghost use Rattle.keys.specs.Keys.{unicodePrepared, roomFor};
 ghost use Rattle.keys.specs.Summaries.{summaryNumbers, preparedNumbers, KeyFilled};
 
 // What preparing a valid text under collation 3 comes to.
 pub fn size_unicode(text: &[u8], entries: &[u32], pool: &[u32]) -> Summary
     requires { ⌜ length (now text) ≤ textMost ⌝ }
-    requires { ⌜ refusalT (table (now entries) (now pool)) ≡ none ⌝ }
+    requires { ⌜ tableRefusal (table (now entries) (now pool)) ≡ none ⌝ }
     requires { ⌜ there (characters (now text)) ≡ true ⌝ }
-    ensures { λ r. ⌜ summaryNumbers r ≡ preparedNumbers (unicodePrepared (mappingT (table (now (entries .entry)) (now (pool .entry)))) (now (text .entry)) (characters (now (text .entry)))) ⌝ }
+    ensures { λ r. ⌜ summaryNumbers r ≡ preparedNumbers (unicodePrepared (mappingOf (table (now (entries .entry)) (now (pool .entry)))) (now (text .entry)) (characters (now (text .entry)))) ⌝ }
 {
     let mut at = 0;
     let mut octets = 0;
@@ -43,10 +44,10 @@ pub fn size_unicode(text: &[u8], entries: &[u32], pool: &[u32]) -> Summary
 // Writes the key of a valid text under collation 3.
 pub fn write_unicode(text: &[u8], entries: &[u32], pool: &[u32], key: &mut [u8]) -> Summary
     requires { ⌜ length (now text) ≤ textMost ⌝ }
-    requires { ⌜ refusalT (table (now entries) (now pool)) ≡ none ⌝ }
+    requires { ⌜ tableRefusal (table (now entries) (now pool)) ≡ none ⌝ }
     requires { ⌜ there (characters (now text)) ≡ true ⌝ }
-    requires { ⌜ roomFor (unicodePrepared (mappingT (table (now entries) (now pool))) (now text) (characters (now text))) ≤ length (now key) ⌝ }
-    ensures { λ r. ⌜ KeyFilled (unicodePrepared (mappingT (table (now (entries .entry)) (now (pool .entry)))) (now (text .entry)) (characters (now (text .entry)))) (now (key .entry)) r (now (key .exit)) ⌝ }
+    requires { ⌜ roomFor (unicodePrepared (mappingOf (table (now entries) (now pool))) (now text) (characters (now text))) ≤ length (now key) ⌝ }
+    ensures { λ r. ⌜ KeyFilled (unicodePrepared (mappingOf (table (now (entries .entry)) (now (pool .entry)))) (now (text .entry)) (characters (now (text .entry)))) (now (key .entry)) r (now (key .exit)) ⌝ }
 {
     let mut at = 0;
     let mut end = 0;

@@ -14,7 +14,7 @@ use Rattle.terms.specs.declared.Collation.{Collation}
 use Rattle.terms.specs.declared.Refusal.{Refusal}
 use Rattle.terms.proofs.Checks.{orElse-none, when-none}
 use Rattle.utf8.specs.Utf8.{characters}
-use Rattle.keys.specs.Tables.{Table, mappingT}
+use Rattle.table.specs.Table.{Table, mappingOf}
 use Rattle.keys.specs.Keys.{PreparedText, prepared, roomFor, keyed, unicodePrepared, tableUnder}
 use Rattle.keys.specs.Summaries.{truth, placeNumber, summaryNumbers, preparedNumbers, KeyFilled}
 use Rattle.keys.specs.declared.KeyPlace.{KeyPlace}
@@ -63,21 +63,21 @@ module _ (p : PreparedText) (s : Summary) (sized : summaryNumbers s ≡ prepared
 
 -- a text's key was written: its summary's numbers, that 8 does not apply, and its buffer
 pub record Written (k : Collation) (t : Table) (place : ℕ) (l : Lent) (s : Summary) (after : List ℕ) : Type 0 where
-  pub sized : summaryNumbers s ≡ preparedNumbers (prepared k (mappingT t) (l .text))
+  pub sized : summaryNumbers s ≡ preparedNumbers (prepared k (mappingOf t) (l .text))
   pub room : roomNeeded place (length (l .buffer)) s ≡ none
-  pub left : after ≡ keyed (prepared k (mappingT t) (l .text)) (l .buffer)
+  pub left : after ≡ keyed (prepared k (mappingOf t) (l .text)) (l .buffer)
 
 -- filling a roomy buffer writes the key
 pub filled-written : {k : Collation} {t : Table} {place : ℕ} {l : Lent} {s : Summary} {after : List ℕ} → tableUnder k t ≡ none
     → Roomy k (length (l .text)) (length (l .buffer))
-    → KeyFilled (unicodePrepared (mappingT t) (l .text) (characters (l .text))) (l .buffer) s after
+    → KeyFilled (unicodePrepared (mappingOf t) (l .text) (characters (l .text))) (l .buffer) s after
     → Written k t place l s after
 filled-written {k} {t} {place} {l} {s} table r filled =
     let accepted = tableUnder-unicode k (r .unicode) t table in
     rw (r .unicode) (record {
       sized = filled .numbers;
       room =
-          room-none (unicodePrepared (mappingT t) (l .text) (characters (l .text))) s (filled .numbers) place (length (l .buffer))
+          room-none (unicodePrepared (mappingOf t) (l .text) (characters (l .text))) s (filled .numbers) place (length (l .buffer))
           (omega (arith, key-most t (l .text) accepted, r .enough));
       left = filled .left;
     })
@@ -85,10 +85,10 @@ filled-written {k} {t} {place} {l} {s} table r filled =
 -- ---- one text
 
 -- the refusal of one text for its key's room
-roomRefusal-one : (k : Collation) (t : Table) (l : Lent) (s : Summary) → summaryNumbers s ≡ preparedNumbers (prepared k (mappingT t) (l .text))
+roomRefusal-one : (k : Collation) (t : Table) (l : Lent) (s : Summary) → summaryNumbers s ≡ preparedNumbers (prepared k (mappingOf t) (l .text))
     → roomRefusal (call (some k) t (l ∷ [])) ≡ roomNeeded 1 (length (l .buffer)) s
 roomRefusal-one k t l s sized =
-    let p = prepared k (mappingT t) (l .text) in
+    let p = prepared k (mappingOf t) (l .text) in
     orElse-none (roomCheck 1 (length (l .buffer)) p) ∙ sym (roomNeeded-roomCheck p s sized 1 (length (l .buffer)))
 
 module _ {k : Collation} {t : Table} {l : Lent} where
@@ -97,7 +97,7 @@ module _ {k : Collation} {t : Table} {l : Lent} where
       → PreparesReady (call (some k) t (l ∷ [])) (Prepared s) after
   unfolding total
   one-written {s} table w =
-      let p = prepared k (mappingT t) (l .text) in
+      let p = prepared k (mappingOf t) (l .text) in
       record {
         call = record {
           answered = rw (roomRefusal-one k t l s (w .sized), w .room, w .sized);
@@ -107,7 +107,7 @@ module _ {k : Collation} {t : Table} {l : Lent} where
       }
 
   -- there was too little
-  pub one-refused : (s : Summary) (x : Refusal) → summaryNumbers s ≡ preparedNumbers (prepared k (mappingT t) (l .text))
+  pub one-refused : (s : Summary) (x : Refusal) → summaryNumbers s ≡ preparedNumbers (prepared k (mappingOf t) (l .text))
       → roomNeeded 1 (length (l .buffer)) s ≡ some x
       → PreparesReady (call (some k) t (l ∷ [])) (Refused x) (l .buffer)
   one-refused s x sized room = record {
@@ -118,15 +118,15 @@ module _ {k : Collation} {t : Table} {l : Lent} where
 -- ---- two texts
 
 -- the refusal of two texts for their keys' room: the first key, then the second
-roomRefusal-two : (k : Collation) (t : Table) (l m : Lent) (one two : Summary) → summaryNumbers one ≡ preparedNumbers (prepared k (mappingT t) (l .text))
-    → summaryNumbers two ≡ preparedNumbers (prepared k (mappingT t) (m .text))
+roomRefusal-two : (k : Collation) (t : Table) (l m : Lent) (one two : Summary) → summaryNumbers one ≡ preparedNumbers (prepared k (mappingOf t) (l .text))
+    → summaryNumbers two ≡ preparedNumbers (prepared k (mappingOf t) (m .text))
     → roomRefusal (call (some k) t (l ∷ m ∷ []))
     ≡ orElse (roomNeeded 1 (length (l .buffer)) one) (roomNeeded 2 (length (m .buffer)) two)
 roomRefusal-two k t l m one two sized sized2 =
     rw (
-      orElse-none (roomCheck 2 (length (m .buffer)) (prepared k (mappingT t) (m .text))),
-      roomNeeded-roomCheck (prepared k (mappingT t) (l .text)) one sized 1 (length (l .buffer)),
-      roomNeeded-roomCheck (prepared k (mappingT t) (m .text)) two sized2 2 (length (m .buffer)),
+      orElse-none (roomCheck 2 (length (m .buffer)) (prepared k (mappingOf t) (m .text))),
+      roomNeeded-roomCheck (prepared k (mappingOf t) (l .text)) one sized 1 (length (l .buffer)),
+      roomNeeded-roomCheck (prepared k (mappingOf t) (m .text)) two sized2 2 (length (m .buffer)),
     )
 
 module _ {k : Collation} {t : Table} {l m : Lent} where
@@ -141,8 +141,8 @@ module _ {k : Collation} {t : Table} {l m : Lent} where
       }
 
   -- there was too little for one of them
-  pub two-refused : (one two : Summary) (x : Refusal) → summaryNumbers one ≡ preparedNumbers (prepared k (mappingT t) (l .text))
-      → summaryNumbers two ≡ preparedNumbers (prepared k (mappingT t) (m .text))
+  pub two-refused : (one two : Summary) (x : Refusal) → summaryNumbers one ≡ preparedNumbers (prepared k (mappingOf t) (l .text))
+      → summaryNumbers two ≡ preparedNumbers (prepared k (mappingOf t) (m .text))
       → orElse (roomNeeded 1 (length (l .buffer)) one) (roomNeeded 2 (length (m .buffer)) two) ≡ some x
       → CalledReady pairOutcome preparedValues (call (some k) t (l ∷ m ∷ [])) (Neither x) (l .buffer ∷ m .buffer ∷ [])
   two-refused one two x sized sized2 room = record {

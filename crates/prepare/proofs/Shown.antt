@@ -7,7 +7,7 @@ use mathlib.Core.List.{List, [], _∷_}
 use Rattle.terms.specs.Refusals.{refused, gives}
 use Rattle.terms.specs.declared.Collation.{Collation}
 use Rattle.terms.specs.declared.Refusal.{Refusal}
-use Rattle.keys.specs.Tables.{Table, mappingT}
+use Rattle.table.specs.Table.{Table, mappingOf}
 use Rattle.keys.specs.Keys.{prepared, keyOf, keyed}
 use Rattle.keys.specs.Summaries.{shownAt}
 use Rattle.keys.specs.declared.Summary.{Summary}
@@ -25,15 +25,15 @@ use Rattle.prepare.proofs.Answering.{answered-gives}
 
 module _ {k : Collation} {t : Table} {l : Lent} {r : Preparation} {after : List ℕ} (h : Prepares (call (some k) t (l ∷ [])) r after) where
   -- a text that was prepared shows its key
-  pub shown-key : callRefusal (call (some k) t (l ∷ [])) ≡ none → shownKey r (l .text) after ≡ keyOf k (mappingT t) (l .text)
+  pub shown-key : callRefusal (call (some k) t (l ∷ [])) ≡ none → shownKey r (l .text) after ≡ keyOf k (mappingOf t) (l .text)
   shown-key e = go r (rw e at (h .call .answered)) (rw e at (h .call .left))
     where
-      go : (x : Preparation) → some (preparationOutcome x) ≡ some (gives (numbersOf (prepared k (mappingT t) (l .text) ∷ [])))
-          → after ∷ [] ≡ keyed (prepared k (mappingT t) (l .text)) (l .buffer) ∷ []
-          → shownKey x (l .text) after ≡ keyOf k (mappingT t) (l .text)
+      go : (x : Preparation) → some (preparationOutcome x) ≡ some (gives (numbersOf (prepared k (mappingOf t) (l .text) ∷ [])))
+          → after ∷ [] ≡ keyed (prepared k (mappingOf t) (l .text)) (l .buffer) ∷ []
+          → shownKey x (l .text) after ≡ keyOf k (mappingOf t) (l .text)
       go (Prepared s) told left =
-          let one : after ≡ keyed (prepared k (mappingT t) (l .text)) (l .buffer) = cc in
-          rw one (shownAt-keyed k (mappingT t) (l .text) (l .buffer) s (cc))
+          let one : after ≡ keyed (prepared k (mappingOf t) (l .text)) (l .buffer) = cc in
+          rw one (shownAt-keyed k (mappingOf t) (l .text) (l .buffer) s (cc))
       go (Refused x) told left = cc
 
   -- "On refusal .. a shown key is empty"
@@ -48,9 +48,9 @@ module _ {k : Collation} {t : Table} {l : Lent} {r : Preparation} {after : List 
 
 -- what two texts that were prepared show: each key is its text's
 pub record ShownBoth (k : Collation) (t : Table) (l m : Lent) (one two : Summary) (sAfter tAfter : List ℕ) : Type 0 where
-  pub first : shownAt (one .place) (one .«key_length») (l .text) sAfter ≡ keyOf k (mappingT t) (l .text)
-  pub second : shownAt (two .place) (two .«key_length») (m .text) tAfter ≡ keyOf k (mappingT t) (m .text)
-  pub valid : two .valid ≡ prepared k (mappingT t) (m .text) .valid
+  pub first : shownAt (one .place) (one .«key_length») (l .text) sAfter ≡ keyOf k (mappingOf t) (l .text)
+  pub second : shownAt (two .place) (two .«key_length») (m .text) tAfter ≡ keyOf k (mappingOf t) (m .text)
+  pub valid : two .valid ≡ prepared k (mappingOf t) (m .text) .valid
 
 module _ {k : Collation} {t : Table} {l m : Lent} {x : Option Refusal} {r : PreparedPair} {sAfter tAfter : List ℕ} {one two : Summary}
     (h : Answers pairOutcome preparedValues x (call (some k) t (l ∷ m ∷ [])) r (sAfter ∷ tAfter ∷ [])) (e : r ≡ Both one two) where
@@ -63,10 +63,10 @@ module _ {k : Collation} {t : Table} {l m : Lent} {x : Option Refusal} {r : Prep
   shown-both =
       let numbers = answered-gives h _ (ap pairOutcome e) .1 in
       let left = rw both-unrefused at (h .left) in
-      let left1 : sAfter ≡ keyed (prepared k (mappingT t) (l .text)) (l .buffer) = cc in
-      let left2 : tAfter ≡ keyed (prepared k (mappingT t) (m .text)) (m .buffer) = cc in
+      let left1 : sAfter ≡ keyed (prepared k (mappingOf t) (l .text)) (l .buffer) = cc in
+      let left2 : tAfter ≡ keyed (prepared k (mappingOf t) (m .text)) (m .buffer) = cc in
       record {
-        first = rw left1 (shownAt-keyed k (mappingT t) (l .text) (l .buffer) one (cc));
-        second = rw left2 (shownAt-keyed k (mappingT t) (m .text) (m .buffer) two (cc));
-        valid = truth-inj (two .valid) (prepared k (mappingT t) (m .text) .valid) (cc);
+        first = rw left1 (shownAt-keyed k (mappingOf t) (l .text) (l .buffer) one (cc));
+        second = rw left2 (shownAt-keyed k (mappingOf t) (m .text) (m .buffer) two (cc));
+        valid = truth-inj (two .valid) (prepared k (mappingOf t) (m .text) .valid) (cc);
       }

@@ -12,7 +12,7 @@ use Rattle.terms.specs.Refusals.{textMost, check, Outcome, refused, gives}
 use Rattle.terms.specs.declared.Collation.{Collation}
 use Rattle.terms.specs.declared.Refusal.{Refusal}
 use Rattle.table.specs.Mapping.{Mapping}
-use Rattle.keys.specs.Tables.{Table, table, mappingT}
+use Rattle.table.specs.Table.{Table, table, mappingOf}
 use Rattle.keys.specs.Keys.{PreparedText, prepared, tableUnder, roomFor, keyed}
 
 -- ---- a call
@@ -49,7 +49,7 @@ preparedUnder none m ls = []
 preparedUnder (some k) m ls = map (λ l. prepared k m (l .text)) ls
 
 abbrev pub preparedIn : Call → List PreparedText
-preparedIn c = preparedUnder (c .collation) (mappingT (c .table)) (c .lents)
+preparedIn c = preparedUnder (c .collation) (mappingOf (c .table)) (c .lents)
 
 -- the lengths of its texts
 abbrev pub lengths : Call → List ℕ

@@ -8,7 +8,7 @@ use lib.Dec.{ltb}
 use Rattle.terms.specs.Refusals.{check}
 use Rattle.terms.specs.declared.Collation.{Collation}
 use Rattle.terms.specs.declared.Refusal.{Refusal}
-use Rattle.keys.specs.Tables.{Table}
+use Rattle.table.specs.Table.{Table}
 use Rattle.keys.specs.declared.KeyPlace.{KeyPlace}
 use Rattle.keys.specs.declared.KeyPlace.the-variants.{Text, Buffer}
 use Rattle.keys.specs.declared.Summary.{Summary}

@@ -9,7 +9,7 @@ use terms::Refusal;
 ghost use mathlib.Core.Path.{_≡_};
 ghost use Rattle.terms.specs.Collations.{collationOf};
 ghost use Rattle.terms.specs.Refusals.{refusal, checkRefusal};
-ghost use Rattle.keys.specs.Tables.{table};
+ghost use Rattle.table.specs.Table.{table};
 ghost use Rattle.keys.specs.Keys.{tableUnder};
 ghost use Rattle.prepare.specs.Promises.{ChecksTexts, ChecksCall, roomNeeded};
 
@@ -58,15 +58,7 @@ fn check_table_under(collation: Collation, entries: &[u32], pool: &[u32]) -> Che
     ensures { λ r. ⌜ checkRefusal r ≡ tableUnder collation (table (now (entries .entry)) (now (pool .entry))) ⌝ }
 {
     if terms::reads_table(collation) {
-        let table = decompose::check_table(entries, pool);
-        match table {
-            table::TableCheck::Accepted => {
-                return Check::Passed;
-            }
-            table::TableCheck::Refused(r) => {
-                return Check::Refused(r);
-            }
-        }
+        return decompose::check_table(entries, pool);
     }
     Check::Passed
 }

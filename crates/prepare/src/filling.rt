@@ -14,7 +14,7 @@ ghost use mathlib.Core.Option.{none, some};
 ghost use Prim.Native.Nat.{_≤_};
 ghost use lib.ListN.{length};
 ghost use Rattle.terms.specs.Refusals.{textMost};
-ghost use Rattle.keys.specs.Tables.{table};
+ghost use Rattle.table.specs.Table.{table};
 ghost use Rattle.keys.specs.Keys.{tableUnder};
 ghost use Rattle.prepare.specs.Calls.{oneCall, twoCall, CalledReady};
 ghost use Rattle.prepare.specs.Preparing.{preparedValues, pairOutcome, PreparesReady};

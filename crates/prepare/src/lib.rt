@@ -16,7 +16,7 @@ use terms::Refusal;
 ghost use mathlib.Core.Path.{_≡_};
 ghost use mathlib.Core.Option.{none};
 ghost use Rattle.terms.specs.Collations.{collationOf};
-ghost use Rattle.keys.specs.Tables.{table};
+ghost use Rattle.table.specs.Table.{table};
 ghost use Rattle.prepare.specs.Calls.{tableCheck, oneCall};
 ghost use Rattle.prepare.specs.Preparing.{shownKey, Prepares};
 

@@ -21,7 +21,7 @@ use Rattle.utf8.proofs.Characters.{utf8-decodes}
 use Rattle.utf8.proofs.Decoders.{characters-empty}
 use Rattle.decompose.specs.Steps.{expansion, stepsKey}
 use Rattle.decompose.proofs.Bounds.{full-some}
-use Rattle.keys.specs.Tables.{Table, mappingT}
+use Rattle.table.specs.Table.{Table, mappingOf}
 use Rattle.keys.specs.Keys.{upper, unicodePrepared, prepared, keyOf}
 use Rattle.keys.specs.declared.Summary.{Summary}
 use Rattle.prepare.specs.Calls.{Lent, call, Answers}
@@ -158,10 +158,10 @@ shows-seekable {k} {m} {s} h full-text a b = record { some = rw a (key-some k m 
 module _ {k : Collation} {t : Table} {l n : Lent} {x : Option Refusal} {r : PreparedPair} {sAfter tAfter : List ℕ} {one two : Summary}
     (h : Answers pairOutcome preparedValues x (call (some k) t (l ∷ n ∷ [])) r (sAfter ∷ tAfter ∷ [])) (e : r ≡ Both one two) where
   -- texts that were prepared show their keys
-  pub both-shows : Shows k (mappingT t) (l .text) sAfter one (n .text) tAfter two
+  pub both-shows : Shows k (mappingOf t) (l .text) sAfter one (n .text) tAfter two
   both-shows = let shown = shown-both h e in record { first = shown .first; second = shown .second; told = shown .valid }
 
   -- what was sought in their keys is the call's answer
-  pub seeks-shown : {q : Sought} → substringOutcome q ≡ gives (substringValues k (mappingT t) (l .text) (n .text))
+  pub seeks-shown : {q : Sought} → substringOutcome q ≡ gives (substringValues k (mappingOf t) (l .text) (n .text))
       → Answers substringOutcome soughtValues x (call (some k) t (l ∷ n ∷ [])) q (sAfter ∷ tAfter ∷ [])
   seeks-shown told = record { answered = rw (told, both-unrefused h e); left = h .left }

@@ -11,7 +11,7 @@ use Rattle.terms.specs.declared.Collation.{Collation}
 use Rattle.terms.specs.declared.Collation.the-variants.{Octet, AsciiCasemap, UnicodeCasemap}
 use Rattle.table.specs.Mapping.{Mapping}
 use Rattle.utf8.specs.Utf8.{Character, characters}
-use Rattle.keys.specs.Tables.{mappingT}
+use Rattle.table.specs.Table.{mappingOf}
 use Rattle.keys.specs.Keys.{keyOf}
 use Rattle.prepare.specs.Calls.{Lent, Call}
 use Rattle.occurrence.specs.Occurrence.{occurrence}
@@ -62,4 +62,4 @@ soughtIn (some k) m (l ∷ n ∷ []) = some (substringValues k m (l .text) (n .t
 soughtIn (some k) m (l ∷ n ∷ o ∷ ls) = none
 
 abbrev pub soughtValues : Call → Option (List ℕ)
-soughtValues c = soughtIn (c .collation) (mappingT (c .table)) (c .lents)
+soughtValues c = soughtIn (c .collation) (mappingOf (c .table)) (c .lents)

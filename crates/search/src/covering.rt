@@ -6,7 +6,8 @@ ghost use mathlib.Core.Path.{_≡_};
 ghost use mathlib.Core.Option.{none};
 ghost use lib.ListN.{drop};
 ghost use Rattle.utf8.specs.Utf8.{characters};
-ghost use Rattle.keys.specs.Tables.{table, mappingT, refusalT};
+ghost use Rattle.table.specs.Table.{table, mappingOf};
+ghost use Rattle.decompose.specs.TableCheck.{tableRefusal};
 ghost use Rattle.search.specs.Covering.{span};
 ghost use Rattle.search.specs.Substring.{runIn};
 ghost use Rattle.search.specs.Promises.{Within, Ahead, Held, holding, runSpan};
@@ -32,9 +33,9 @@ pub fn cover(
     start: KeyPosition,
     end: KeyPosition,
 ) -> Run
-    requires { ⌜ refusalT (table (now entries) (now pool)) ≡ none ⌝ }
-    requires { ⌜ Within (mappingT (table (now entries) (now pool))) (characters (now text)) (start .0) (end .0) ⌝ }
-    ensures { λ r. ⌜ runSpan r ≡ runIn (mappingT (table (now (entries .entry)) (now (pool .entry)))) (characters (now (text .entry))) (span (start .0) (end .0)) ⌝ }
+    requires { ⌜ tableRefusal (table (now entries) (now pool)) ≡ none ⌝ }
+    requires { ⌜ Within (mappingOf (table (now entries) (now pool))) (characters (now text)) (start .0) (end .0) ⌝ }
+    ensures { λ r. ⌜ runSpan r ≡ runIn (mappingOf (table (now (entries .entry)) (now (pool .entry)))) (characters (now (text .entry))) (span (start .0) (end .0)) ⌝ }
 {
     let s = start.0;
     let e = end.0;
@@ -58,9 +59,9 @@ fn find_holder(
     from: TextPosition,
     k: KeyPosition,
 ) -> Holder
-    requires { ⌜ refusalT (table (now entries) (now pool)) ≡ none ⌝ }
-    requires { ⌜ Ahead (mappingT (table (now entries) (now pool))) (characters (drop (from .0) (now text))) (k .0) ⌝ }
-    ensures { λ r. ⌜ Held (mappingT (table (now (entries .entry)) (now (pool .entry)))) (characters (drop (from .0) (now (text .entry)))) (from .0) (k .0) r ⌝ }
+    requires { ⌜ tableRefusal (table (now entries) (now pool)) ≡ none ⌝ }
+    requires { ⌜ Ahead (mappingOf (table (now entries) (now pool))) (characters (drop (from .0) (now text))) (k .0) ⌝ }
+    ensures { λ r. ⌜ Held (mappingOf (table (now (entries .entry)) (now (pool .entry)))) (characters (drop (from .0) (now (text .entry)))) (from .0) (k .0) r ⌝ }
 {
     let mut at = from.0;
     let mut left = k.0;

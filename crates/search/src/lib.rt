@@ -19,7 +19,7 @@ ghost use Prim.Native.Nat.{_≤_};
 ghost use lib.ListN.{length};
 ghost use Rattle.terms.specs.Collations.{collationOf};
 ghost use Rattle.terms.specs.Refusals.{textMost, gives};
-ghost use Rattle.keys.specs.Tables.{table, mappingT};
+ghost use Rattle.table.specs.Table.{table, mappingOf};
 ghost use Rattle.keys.specs.Keys.{tableUnder};
 ghost use Rattle.prepare.specs.Calls.{tableCheck, twoCall, Called, CalledReady};
 ghost use Rattle.occurrence.specs.Occurrence.{occurrence};
@@ -149,8 +149,8 @@ fn seek_shown<'a, 'b>(
     pool: &[u32],
 ) -> Sought
     requires { ⌜ tableUnder collation (table (now entries) (now pool)) ≡ none ⌝ }
-    requires { ⌜ Shows collation (mappingT (table (now entries) (now pool))) (now first) (now «first_key») one (now second) (now «second_key») two ⌝ }
-    ensures { λ r. ⌜ substringOutcome r ≡ gives (substringValues collation (mappingT (table (now (entries .entry)) (now (pool .entry)))) (now (first .entry)) (now (second .entry))) ⌝ }
+    requires { ⌜ Shows collation (mappingOf (table (now entries) (now pool))) (now first) (now «first_key») one (now second) (now «second_key») two ⌝ }
+    ensures { λ r. ⌜ substringOutcome r ≡ gives (substringValues collation (mappingOf (table (now (entries .entry)) (now (pool .entry)))) (now (first .entry)) (now (second .entry))) ⌝ }
 {
     if first.len() == 0 {
         return Sought::Match {
@@ -176,8 +176,8 @@ fn seek_key(
     pool: &[u32],
 ) -> Sought
     requires { ⌜ tableUnder collation (table (now entries) (now pool)) ≡ none ⌝ }
-    requires { ⌜ Seekable collation (mappingT (table (now entries) (now pool))) (now needle) (now hay) (now second) valid ⌝ }
-    ensures { λ r. ⌜ substringOutcome r ≡ gives (foundValues collation (mappingT (table (now (entries .entry)) (now (pool .entry)))) (now (second .entry)) (length (now (needle .entry))) (occurrence (now (needle .entry)) (now (hay .entry)))) ⌝ }
+    requires { ⌜ Seekable collation (mappingOf (table (now entries) (now pool))) (now needle) (now hay) (now second) valid ⌝ }
+    ensures { λ r. ⌜ substringOutcome r ≡ gives (foundValues collation (mappingOf (table (now (entries .entry)) (now (pool .entry)))) (now (second .entry)) (length (now (needle .entry))) (occurrence (now (needle .entry)) (now (hay .entry)))) ⌝ }
 {
     let found = occurrence::find(needle, hay);
     match found {
@@ -209,8 +209,8 @@ fn hit(
     end: KeyPosition,
 ) -> Sought
     requires { ⌜ tableUnder collation (table (now entries) (now pool)) ≡ none ⌝ }
-    requires { ⌜ Hits collation (mappingT (table (now entries) (now pool))) (now second) valid (start .0) (end .0) ⌝ }
-    ensures { λ r. ⌜ substringOutcome r ≡ gives (hitValues (span (start .0) (end .0)) (textRun collation (mappingT (table (now (entries .entry)) (now (pool .entry)))) (now (second .entry)) (span (start .0) (end .0)))) ⌝ }
+    requires { ⌜ Hits collation (mappingOf (table (now entries) (now pool))) (now second) valid (start .0) (end .0) ⌝ }
+    ensures { λ r. ⌜ substringOutcome r ≡ gives (hitValues (span (start .0) (end .0)) (textRun collation (mappingOf (table (now (entries .entry)) (now (pool .entry)))) (now (second .entry)) (span (start .0) (end .0)))) ⌝ }
 {
     if terms::reads_table(collation) {
         if valid {

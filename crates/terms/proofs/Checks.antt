@@ -3,10 +3,12 @@
 use mathlib.Core.Path.{_≡_, refl}
 use mathlib.Core.Bool.{Bool, true, false, _||_}
 use mathlib.Core.Option.{Option, none, some}
-use mathlib.Core.List.{List}
+use mathlib.Core.List.{List, []}
 use Prim.Native.Nat.{ℕ}
 use Rattle.terms.specs.Lists.{orElse, when}
-use Rattle.terms.specs.Refusals.{answer, refused, gives}
+use Rattle.terms.specs.Refusals.{answer, refused, gives, checkRefusal, checkOutcome}
+use Rattle.terms.specs.declared.Check.{Check}
+use Rattle.terms.specs.declared.Check.the-variants.{Passed, Refused}
 use Rattle.terms.specs.declared.Refusal.{Refusal}
 
 -- ---- tests that don't hold
@@ -63,3 +65,10 @@ answer-given (some r) vs ws e = cc
 pub answer-refused : (o : Option Refusal) (vs : List ℕ) (r : Refusal) → refused r ≡ answer o vs → o ≡ some r
 answer-refused none vs r e = cc
 answer-refused (some s) vs r e = cc
+
+-- a check whose answer is that of a refusal answers the refusal
+pub checkRefusal-answer : (c : Check) (o : Option Refusal) → checkOutcome c ≡ answer o [] → checkRefusal c ≡ o
+checkRefusal-answer Passed none e = refl
+checkRefusal-answer Passed (some r) e = cc
+checkRefusal-answer (Refused s) none e = cc
+checkRefusal-answer (Refused s) (some r) e = cc

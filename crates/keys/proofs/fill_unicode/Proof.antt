@@ -3,7 +3,7 @@
 use mathlib.Core.Path.{sym, _∙_}
 use native.Mathlib.Omega.{arith}
 use borrow.Author.Needs.{needs}
-use Rattle.keys.specs.Tables.{table, mappingT}
+use Rattle.table.specs.Table.{table, mappingOf}
 use Rattle.utf8.specs.Utf8.{characters}
 use Rattle.keys.proofs.Bounds.{key-most}
 use Rattle.keys.proofs.Collations.{filled-kept}
@@ -37,7 +37,7 @@ returns-2 : tie.Need-returns-2
 returns-2 c =
     let invalid = c .before in
     let s = invalid .before .before .before .before .before .before in
-    filled-kept (mappingT (table (s .args .entries .now) (s .args .pool .now))) (s .args .text .now) (s .args .key .now)
+    filled-kept (mappingOf (table (s .args .entries .now) (s .args .pool .now))) (s .args .text .now) (s .args .key .now)
     (characters (s .args .text .now)) (c .kept .result)
     (sym (invalid .before .is-valid .ensures) ∙ invalid .if1 .left) (c .kept .ensures)
 

@@ -3,7 +3,7 @@
 use mathlib.Core.Path.{sym, _∙_}
 use mathlib.Core.List.{[]}
 use lib.ListN.{length-map}
-use Rattle.keys.specs.Tables.{table, mappingT}
+use Rattle.table.specs.Table.{table, mappingOf}
 use Rattle.utf8.specs.Utf8.{characters}
 use Rattle.keys.specs.Keys.{upper}
 use Rattle.keys.proofs.Collations.{filled-kept}
@@ -47,7 +47,7 @@ returns-4 c =
     let told = asked .before in
     let args = told .before .before .before .before .before .args in
     rw (told .enum-told3 .given .1)
-    (filled-kept (mappingT (table (args .entries .now) (args .pool .now))) (args .text .now) [] (characters (args .text .now)) (c .kept .result)
+    (filled-kept (mappingOf (table (args .entries .now) (args .pool .now))) (args .text .now) [] (characters (args .text .now)) (c .kept .result)
     (sym (asked .is-valid .ensures) ∙ c .before .if1 .left) (c .kept .ensures) .numbers)
 
 pub size-key-spec : {M : Type 1} → statement M

@@ -7,7 +7,7 @@ use lib.ListN.{length-map}
 use Rattle.terms.specs.Lists.{there}
 use Rattle.utf8.specs.Utf8.{characters}
 use Rattle.keys.specs.Keys.{upper}
-use Rattle.keys.specs.Tables.{table, mappingT}
+use Rattle.table.specs.Table.{table, mappingOf}
 use Rattle.keys.proofs.Collations.{tableUnder-unicode, prepared-unicode, summary-valid, keyed-invalid}
 use borrow.Author.Needs.{needs}
 use Rattle.keys.proofs.write_key.Statement.{statement}
@@ -20,7 +20,7 @@ start c = c .before .before .before .before .before .before
 valid : (c : tie.After-enum-told3) → start c .args .summary .valid ≡ there (characters (start c .args .text .now))
 valid c =
     let s = start c in
-    summary-valid _ (c .enum-told3 .given .1) (mappingT (table (s .args .entries .now) (s .args .pool .now))) (s .args .text .now) (s .args .summary)
+    summary-valid _ (c .enum-told3 .given .1) (mappingOf (table (s .args .entries .now) (s .args .pool .now))) (s .args .text .now) (s .args .summary)
     (s .pre .1 .1 .0)
 
 enum-told : tie.Need-enum-told
@@ -44,7 +44,7 @@ write-unicode-requires c κs =
     let test = c .before in
     let s = start (test .before) in
     let e = test .before .enum-told3 .given .1 in
-    let is = prepared-unicode _ e (mappingT (table (s .args .entries .now) (s .args .pool .now))) (s .args .text .now) in
+    let is = prepared-unicode _ e (mappingOf (table (s .args .entries .now) (s .args .pool .now))) (s .args .text .now) in
     (
       s .pre .0,
       (
@@ -75,7 +75,7 @@ returns-4 c =
     let told = c .before in
     let args = start told .args in
     rw (told .enum-told3 .given .1)
-    (keyed-invalid (mappingT (table (args .entries .now) (args .pool .now))) (args .text .now) (args .key .now) (characters (args .text .now))
+    (keyed-invalid (mappingOf (table (args .entries .now) (args .pool .now))) (args .text .now) (args .key .now) (characters (args .text .now))
     (sym (valid told) ∙ c .if1 .left))
 
 pub write-key-spec : {M : Type 1} → statement M

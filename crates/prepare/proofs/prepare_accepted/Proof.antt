@@ -4,7 +4,7 @@
 use lib.ListN.{length}
 use borrow.Author.Needs.{needs}
 use Rattle.terms.specs.Collations.{collationOf}
-use Rattle.keys.specs.Tables.{table}
+use Rattle.table.specs.Table.{table}
 use Rattle.prepare.specs.Promises.{ChecksCall}
 use Rattle.prepare.proofs.CallRefusals.{checks-texts, ready-table, checks-passed, checks-refused, prepares-ready, prepares-refused}
 use Rattle.prepare.proofs.prepare_accepted.Statement.{statement}

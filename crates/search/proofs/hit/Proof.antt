@@ -6,7 +6,7 @@ use borrow.Author.Needs.{needs}
 use Rattle.terms.specs.Collations.{readsTable}
 use Rattle.terms.specs.Refusals.{gives}
 use Rattle.table.specs.Mapping.{Mapping}
-use Rattle.keys.specs.Tables.{table, mappingT}
+use Rattle.table.specs.Table.{table, mappingOf}
 use Rattle.keys.proofs.Collations.{tableUnder-reads}
 use Rattle.search.specs.Covering.{Span, span}
 use Rattle.search.specs.Substring.{hitValues}
@@ -23,7 +23,7 @@ reads c = sym (c .before .reads-table .ensures) ∙ c .if1 .taken
 
 -- the mapping of the table
 abbrev mapping : tie.Start → Mapping
-mapping s = mappingT (table (s .args .entries .now) (s .args .pool .now))
+mapping s = mappingOf (table (s .args .entries .now) (s .args .pool .now))
 
 -- a hit at a part of the key, by its run
 hit-run : (part : Span) {a b : Span} → a ≡ b → gives (hitValues part a) ≡ gives (hitValues part b)

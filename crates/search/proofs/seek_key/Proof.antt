@@ -6,7 +6,7 @@ use Prim.Native.Nat.{ℕ}
 use native.Mathlib.Omega.{arith}
 use borrow.Author.Needs.{needs}
 use Rattle.table.specs.Mapping.{Mapping}
-use Rattle.keys.specs.Tables.{table, mappingT}
+use Rattle.table.specs.Table.{table, mappingOf}
 use Rattle.occurrence.specs.Occurrence.{occurrence}
 use Rattle.occurrence.specs.Promises.{placeFound}
 use Rattle.occurrence.proofs.Laws.{occurrence-within}
@@ -19,7 +19,7 @@ abbrev start : tie.After-find → tie.Start
 start c = c .before .before .before .before .before .before
 
 abbrev mapping : tie.After-find → Mapping
-mapping c = mappingT (table (start c .args .entries .now) (start c .args .pool .now))
+mapping c = mappingOf (table (start c .args .entries .now) (start c .args .pool .now))
 
 -- where the needle was found
 abbrev place : tie.After-found → ℕ

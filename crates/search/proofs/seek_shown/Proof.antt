@@ -4,7 +4,7 @@ use mathlib.Core.Path.{_≡_, ap, _∙_}
 use borrow.Author.Needs.{needs}
 use Rattle.terms.specs.Refusals.{gives}
 use Rattle.table.specs.Mapping.{Mapping}
-use Rattle.keys.specs.Tables.{table, mappingT}
+use Rattle.table.specs.Table.{table, mappingOf}
 use Rattle.keys.specs.Keys.{keyOf}
 use Rattle.search.proofs.Seeking.{values-empty, values-found, shows-seekable}
 use Rattle.search.proofs.seek_shown.Statement.{statement}
@@ -15,7 +15,7 @@ abbrev start : tie.After-shared-slice-known6 → tie.Start
 start c = c .before .before .before .before .before .before
 
 abbrev mapping : tie.After-shared-slice-known6 → Mapping
-mapping c = mappingT (table (start c .args .entries .now) (start c .args .pool .now))
+mapping c = mappingOf (table (start c .args .entries .now) (start c .args .pool .now))
 
 -- the empty text
 returns : tie.Need-returns

@@ -5,7 +5,7 @@ use mathlib.Core.Path.{refl}
 use lib.ListN.{length}
 use borrow.Author.Needs.{needs}
 use Rattle.terms.specs.Collations.{collationOf}
-use Rattle.keys.specs.Tables.{table}
+use Rattle.table.specs.Table.{table}
 use Rattle.prepare.specs.Promises.{ChecksCall}
 use Rattle.prepare.proofs.CallRefusals.{checks-texts, ready-table, checks-passed, checks-refused, called-ready, called-refused}
 use Rattle.search.proofs.substring_accepted.Statement.{statement}

@@ -12,7 +12,7 @@ use lib.ListN.{length, drop}
 use Rattle.terms.specs.Lists.{there}
 use Rattle.terms.specs.Refusals.{textMost}
 use Rattle.table.specs.Mapping.{Mapping}
-use Rattle.keys.specs.Tables.{table, mappingT}
+use Rattle.table.specs.Table.{table, mappingOf}
 use Rattle.utf8.specs.Utf8.{Character, decode, characters}
 use Rattle.utf8.specs.Promises.{characterOf}
 use Rattle.utf8.proofs.Characters.{utf8-decodes}
@@ -24,7 +24,7 @@ use Rattle.keys.proofs.unicode.size_unicode.Tie as tie
 
 abbrev Inv-loop : tie.InvT-loop
 Inv-loop text entries pool at₀ octets₀ lookups₀ at octets lookups =
-    Sizing decode (mappingT (table entries pool)) text at octets lookups × (there (characters (drop at text)) ≡ true)
+    Sizing decode (mappingOf (table entries pool)) text at octets lookups × (there (characters (drop at text)) ≡ true)
 
 abbrev μ-loop : tie.MeasureT-loop
 μ-loop text entries pool at₀ octets₀ lookups₀ at octets lookups = length text - at
@@ -34,7 +34,7 @@ abbrev start : tie.At-loop Inv-loop μ-loop → tie.Start Inv-loop μ-loop
 start l = l .before .before .before .before
 
 abbrev mapping : tie.At-loop Inv-loop μ-loop → Mapping
-mapping l = mappingT (table (start l .args .entries .now) (start l .args .pool .now))
+mapping l = mappingOf (table (start l .args .entries .now) (start l .args .pool .now))
 
 abbrev text-of : tie.At-loop Inv-loop μ-loop → List ℕ
 text-of l = start l .args .text .now
@@ -60,7 +60,7 @@ more : (c : tie.After-size-expansion Inv-loop μ-loop)
 more c =
     let r = c .before in
     let l = head r in
-    let accepted = accepted-all (start l .args .entries .now) (start l .args .pool .now) (start l .pre .1 .0) in
+    let accepted = accepted-all (table (start l .args .entries .now) (start l .args .pool .now)) (start l .pre .1 .0) in
     sizing-more utf8-decodes (l .loop .inv .0) accepted (read r) (c .size-expansion .result) (decoded r) (c .size-expansion .ensures)
 
 -- so they are few

@@ -11,7 +11,7 @@ use native.Mathlib.Omega.{arith}
 use lib.ListN.{length, take, drop}
 use Rattle.terms.proofs.Parts.{take-drop, put-back}
 use Rattle.table.specs.Mapping.{Mapping}
-use Rattle.keys.specs.Tables.{table, mappingT}
+use Rattle.table.specs.Table.{table, mappingOf}
 use Rattle.utf8.specs.Utf8.{Character, decode}
 use Rattle.utf8.specs.Promises.{characterOf}
 use Rattle.utf8.proofs.Characters.{utf8-decodes}
@@ -23,7 +23,7 @@ use Rattle.keys.proofs.unicode.write_unicode.Tie as tie
 
 abbrev Inv-loop : tie.InvT-loop
 Inv-loop text entries pool key₀ at₀ end₀ lookups₀ key at end lookups =
-    Sizing decode (mappingT (table entries pool)) text at end lookups × Writing decode (mappingT (table entries pool)) text key₀ at end key
+    Sizing decode (mappingOf (table entries pool)) text at end lookups × Writing decode (mappingOf (table entries pool)) text key₀ at end key
 
 abbrev μ-loop : tie.MeasureT-loop
 μ-loop text entries pool key₀ at₀ end₀ lookups₀ key at end lookups = length text - at
@@ -33,7 +33,7 @@ abbrev start : tie.At-loop Inv-loop μ-loop → tie.Start Inv-loop μ-loop
 start l = l .before .before .before .before .before
 
 abbrev mapping : tie.At-loop Inv-loop μ-loop → Mapping
-mapping l = mappingT (table (start l .args .entries .now) (start l .args .pool .now))
+mapping l = mappingOf (table (start l .args .entries .now) (start l .args .pool .now))
 
 abbrev text-of : tie.At-loop Inv-loop μ-loop → List ℕ
 text-of l = start l .args .text .now
@@ -95,7 +95,7 @@ sized : (c : tie.After-write-expansion Inv-loop μ-loop)
 sized c =
     let r = read-at c in
     let l = head r in
-    let accepted = accepted-all (start l .args .entries .now) (start l .args .pool .now) (start l .pre .1 .0) in
+    let accepted = accepted-all (table (start l .args .entries .now) (start l .args .pool .now)) (start l .pre .1 .0) in
     sizing-more utf8-decodes (l .loop .inv .0) accepted (read r)
     (c .write-expansion .result) (decoded r) (c .write-expansion .ensures .counted)
 

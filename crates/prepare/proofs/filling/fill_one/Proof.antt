@@ -3,7 +3,7 @@
 use mathlib.Core.Path.{sym, _∙_}
 use lib.ListN.{length}
 use borrow.Author.Needs.{needs}
-use Rattle.keys.specs.Tables.{table}
+use Rattle.table.specs.Table.{table}
 use Rattle.keys.proofs.Collations.{tableUnder-unicode}
 use Rattle.keys.proofs.Bounds.{Roomy, roomy-enough}
 use Rattle.prepare.proofs.Rooms.{filled-written, one-written}

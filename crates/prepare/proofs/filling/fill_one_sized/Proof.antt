@@ -4,7 +4,7 @@ use mathlib.Core.Path.{_≡_, sym, ap, _∙_}
 use mathlib.Core.Option.{none}
 use lib.ListN.{length}
 use borrow.Author.Needs.{needs}
-use Rattle.keys.specs.Tables.{table, mappingT}
+use Rattle.table.specs.Table.{table, mappingOf}
 use Rattle.keys.specs.Keys.{prepared}
 use Rattle.terms.specs.Refusals.{checkRefusal}
 use Rattle.prepare.specs.Promises.{roomNeeded}
@@ -35,7 +35,7 @@ write-key-requires : tie.Need-write-key-requires
 write-key-requires c κs =
     let sized = c .before .before .before .before in
     let args = start sized .args in
-    let p = prepared (args .collation) (mappingT (table (args .entries .now) (args .pool .now))) (args .text .now) in
+    let p = prepared (args .collation) (mappingOf (table (args .entries .now) (args .pool .now))) (args .text .now) in
     let s = sized .size-key in (
       start sized .pre .0,
       (start sized .pre .1, (s .ensures, room-enough p (s .result) (s .ensures) 1 (length (args .key .now)) (room (c .before)))),

@@ -5,7 +5,8 @@ use mathlib.Core.Path.{_≡_, sym, _∙_}
 use mathlib.Core.Option.{none}
 use lib.ListN.{length}
 use borrow.Author.Needs.{needs}
-use Rattle.keys.specs.Tables.{table, refusalT}
+use Rattle.table.specs.Table.{table}
+use Rattle.decompose.specs.TableCheck.{tableRefusal}
 use Rattle.keys.proofs.Collations.{tableUnder-unicode}
 use Rattle.keys.proofs.Bounds.{Roomy, roomy-enough}
 use Rattle.prepare.proofs.Rooms.{filled-written, two-written}
@@ -26,7 +27,7 @@ second : (c : tie.Then2)
     → Roomy (start c .args .collation) (length (start c .args .second .now)) (length (start c .args .second-key .now))
 second c = roomy-enough _ _ _ (sym (c .before .is-roomy2 .ensures) ∙ c .if2 .taken)
 
-accepted : (c : tie.Then2) → refusalT (table (start c .args .entries .now) (start c .args .pool .now)) ≡ none
+accepted : (c : tie.Then2) → tableRefusal (table (start c .args .entries .now) (start c .args .pool .now)) ≡ none
 accepted c =
     let s = start c in
     tableUnder-unicode _ (first c .unicode) (table (s .args .entries .now) (s .args .pool .now)) (s .pre .1 .1)

@@ -6,7 +6,7 @@ use mathlib.Core.Option.{none}
 use lib.ListN.{length}
 use borrow.Author.Needs.{needs}
 use Rattle.table.specs.Mapping.{Mapping}
-use Rattle.keys.specs.Tables.{table, mappingT}
+use Rattle.table.specs.Table.{table, mappingOf}
 use Rattle.keys.specs.Keys.{prepared}
 use Rattle.terms.specs.Refusals.{checkRefusal}
 use Rattle.prepare.specs.Promises.{roomNeeded}
@@ -20,7 +20,7 @@ abbrev start : tie.After-size-key2 → tie.Start
 start c = c .before .before .before .before .before .before .before .before
 
 abbrev mapping : tie.After-size-key2 → Mapping
-mapping c = mappingT (table (start c .args .entries .now) (start c .args .pool .now))
+mapping c = mappingOf (table (start c .args .entries .now) (start c .args .pool .now))
 
 -- the first key has room
 room : (c : tie.After-enum-told) → let sized = c .before .before .before in

@@ -12,13 +12,13 @@ use Rattle.utf8.specs.Utf8.{Character, decode}
 use Rattle.utf8.specs.Promises.{characterOf}
 use Rattle.utf8.proofs.Characters.{utf8-decodes}
 use Rattle.utf8.proofs.Decoders.{decode-drop-fits, there-next}
-use Rattle.keys.specs.Tables.{table, mappingT}
+use Rattle.table.specs.Table.{table, mappingOf}
 use Rattle.search.proofs.Holders.{Walking, walking-start, walking-more, walking-found, walking-done}
 use Rattle.search.proofs.covering.find_holder.Statement.{statement}
 use Rattle.search.proofs.covering.find_holder.Tie as tie
 
 abbrev Inv-loop : tie.InvT-loop
-Inv-loop text entries pool at₀ left₀ at left = Walking decode (mappingT (table entries pool)) text at₀ left₀ at left
+Inv-loop text entries pool at₀ left₀ at left = Walking decode (mappingOf (table entries pool)) text at₀ left₀ at left
 
 abbrev μ-loop : tie.MeasureT-loop
 μ-loop text entries pool at₀ left₀ at left = length text - at
