@@ -1,4 +1,5 @@
--- Octets that trail: `trails`, `trailed` by places and over every width, and which code points are `taken`.
+-- Octets that trail: which do (`trails`), what they come to, by places and over every width (`trailed`), and which code points
+-- are `taken`.
 -- Assumes nothing.
 use mathlib.Core.Path.{_≡_, refl, _∙_, ap}
 use mathlib.Core.Bool.{Bool, true, false, cond, _&&_}
@@ -15,7 +16,7 @@ use Rattle.terms.proofs.Tests.{both, join, none-some}
 use Rattle.utf8.specs.Utf8.{scalar, Character, character, trails, trailed, taken}
 use Rattle.utf8.proofs.Encode.{highBits, trailing}
 
--- ---- trails
+-- ---- what is there passed its test
 
 cond-some {ℓ} : {A : Type ℓ} (b : Bool) (o : Option A) (a : A) → cond b o none ≡ some a → (b ≡ true) × (o ≡ some a)
 cond-some true o a e = (refl, e)
@@ -24,6 +25,8 @@ cond-some false o a e = absurd (none-some a e)
 when-some : (b : Bool) (a ch : Character) → when b a ≡ some ch → (b ≡ true) × (a ≡ ch)
 when-some true a ch e = (refl, cc)
 when-some false a ch e = absurd (none-some ch e)
+
+-- ---- trails
 
 -- an octet that trails is 80 to BF
 abbrev pub Between : ℕ → Type 0

@@ -28,7 +28,8 @@ codesOf chs = map (λ (ch : Character). ch .code) chs
 abbrev pub Decoder : Type 0
 Decoder = List ℕ → Option Character
 
--- what every decoder must have: a character takes an octet or more and no more than there are, and its code point is scalar
+-- what every decoder must have: a character takes an octet or more and no more than there are (so there is none in no octets), and
+-- its code point is scalar
 pub record Decodes (decode : Decoder) : Type 0 where
   pub fits : (t : List ℕ) (ch : Character) → decode t ≡ some ch → (1 ≤ ch .width) × (ch .width ≤ length t)
   pub scalars : (t : List ℕ) (ch : Character) → decode t ≡ some ch → scalar (ch .code) ≡ true
@@ -38,7 +39,7 @@ abbrev pub prepend : Character → Option (List Character) → Option (List Char
 prepend ch none = none
 prepend ch (some chs) = some (ch ∷ chs)
 
--- a character, and the characters that begin so many octets after its first; none where there is none, or it has no octet
+-- a character, and those that begin so many octets after its first one; none where it is none, or takes no octet
 abbrev pub before : Option Character → (ℕ → Option (List Character)) → Option (List Character)
 before none rest = none
 before (some ch) rest = prepend ch (after (ch .width))
