@@ -1,5 +1,4 @@
 pub mod Cases
+pub mod CutAtTab
 pub mod Judging
 pub mod Numbers
-pub mod Writing
-pub mod Defaults

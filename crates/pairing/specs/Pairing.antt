@@ -3,15 +3,17 @@
 -- Assumes nothing.
 use Prim.Native.Nat.{ℕ, suc}
 use mathlib.Core.Bool.{Bool, not}
-use mathlib.Core.Option.{Option, none, some, Option·getD}
+use mathlib.Core.Option.{Option, none, some}
 use mathlib.Core.List.{List, [], _∷_}
 use lib.Dec.{ltb, eqb}
 use lib.ListN.{length, take, drop, getD}
 use Rattle.terms.specs.Lists.{there, lowest}
 use Rattle.terms.specs.Refusals.{check, first, Outcome, refused}
+use Rattle.terms.specs.declared.Collation.the-variants.{UnicodeCasemap}
 use Rattle.terms.specs.declared.Refusal.{Refusal}
-use Rattle.prepare.specs.Calls.{firstLeaves, secondLeaves}
-use Rattle.compare.specs.Compare.{orderAnswer}
+use Rattle.table.specs.Table.{Table}
+use Rattle.prepare.specs.Calls.{Call, call, lent, callRefusal, answerOf, buffersAfter}
+use Rattle.compare.specs.Compare.{orderValues}
 
 -- ---- the two texts
 
@@ -27,13 +29,15 @@ isTab line i = eqb (getD line i 0) 0x09
 abbrev pub tabOf : List ℕ → Option ℕ
 tabOf line = lowest (isTab line) (length line)
 
--- the first text: what stands before the first tab
-abbrev pub firstText : List ℕ → List ℕ
-firstText line = take (Option·getD (tabOf line) 0) line
+-- what stands before a place of a line, and what stands after it, compared under i;unicode-casemap
+abbrev pub callAround : List ℕ → Table → List ℕ → List ℕ → ℕ → Call
+callAround line t firstBuffer secondBuffer at =
+    call (some UnicodeCasemap) t (lent (take at line) firstBuffer ∷ lent (drop (suc at) line) secondBuffer ∷ [])
 
--- the second text: what stands after it, later tabs among it
-abbrev pub secondText : List ℕ → List ℕ
-secondText line = drop (suc (Option·getD (tabOf line) 0)) line
+-- the call that a line with a tab at a place is; without a tab it is none
+abbrev pub callAt : List ℕ → Table → List ℕ → List ℕ → Option ℕ → Option Call
+callAt line t firstBuffer secondBuffer none = none
+callAt line t firstBuffer secondBuffer (some at) = some (callAround line t firstBuffer secondBuffer at)
 
 -- ---- the answer
 
@@ -42,35 +46,23 @@ abbrev pub pairRefusal : List ℕ → Option Refusal
 pairRefusal line =
     first (check (ltb pairMost (length line)) 2 0 0 ∷ check (not (there (tabOf line))) 9 0 0 ∷ [])
 
--- the answer of a line: its refusal, and else that of its texts
-abbrev pub judged : Option Refusal → Outcome → Outcome
-judged none compared = compared
-judged (some r) compared = refused r
+-- the answer of a line: its refusal, and else the order of its texts
+abbrev pub judged : Option Refusal → Option Call → Option Outcome
+judged (some r) c = some (refused r)
+judged none none = none
+judged none (some c) = answerOf (callRefusal c) (orderValues c)
 
--- the answer for a line: the order of its two texts under i;unicode-casemap
-unfoldable pub pairAnswer : List ℕ → List ℕ → List ℕ → List ℕ → List ℕ → Outcome
-pairAnswer line es pool firstBuffer secondBuffer =
-    judged (pairRefusal line) (orderAnswer 3 (firstText line) (secondText line) es pool firstBuffer secondBuffer)
+-- the two key buffers after a line: as the comparison leaves them, and as before if there is none
+abbrev pub buffersLeft : Option Refusal → Option Call → List (List ℕ) → List (List ℕ)
+buffersLeft (some r) c before = before
+buffersLeft none none before = before
+buffersLeft none (some c) before = buffersAfter (callRefusal c) c
 
--- ---- the key buffers
+-- the answer for a line
+unfoldable pub pairAnswer : List ℕ → Table → List ℕ → List ℕ → Option Outcome
+pairAnswer line t firstBuffer secondBuffer = judged (pairRefusal line) (callAt line t firstBuffer secondBuffer (tabOf line))
 
--- a key buffer after a line: as the comparison leaves it, and as before if there is none
-abbrev pub left : Option Refusal → List ℕ → List ℕ → List ℕ
-left none compared before = compared
-left (some r) compared before = before
-
--- the first key buffer after a line
-unfoldable pub pairFirstLeaves : List ℕ → List ℕ → List ℕ → List ℕ → List ℕ → List ℕ
-pairFirstLeaves line es pool firstBuffer secondBuffer =
-    left
-    (pairRefusal line)
-    (firstLeaves 3 (firstText line) (secondText line) es pool firstBuffer secondBuffer)
-    firstBuffer
-
--- the second key buffer after a line
-unfoldable pub pairSecondLeaves : List ℕ → List ℕ → List ℕ → List ℕ → List ℕ → List ℕ
-pairSecondLeaves line es pool firstBuffer secondBuffer =
-    left
-    (pairRefusal line)
-    (secondLeaves 3 (firstText line) (secondText line) es pool firstBuffer secondBuffer)
-    secondBuffer
+-- the two key buffers after it
+unfoldable pub pairBuffers : List ℕ → Table → List ℕ → List ℕ → List (List ℕ)
+pairBuffers line t firstBuffer secondBuffer =
+    buffersLeft (pairRefusal line) (callAt line t firstBuffer secondBuffer (tabOf line)) (firstBuffer ∷ secondBuffer ∷ [])

@@ -6,10 +6,11 @@ use Prim.Native.Nat.{ℕ, zero, suc, _+_, _/_, _%_, _≤_, _<_}
 use native.Mathlib.Omega.{arith}
 use mathlib.Core.Bool.{Bool, true, false, cond}
 use mathlib.Core.List.{List, [], _∷_, _++_}
-use lib.Dec.{ltb, eqb}
-use lib.ListN.{getD}
+use lib.Dec.{ltb}
 use borrow.Author.Tests.{ltb-false, lt-ltb, le-ltb}
-use Rattle.terms.specs.Refusals.{Outcome, refused, gives}
+use Rattle.terms.specs.declared.Refusal.{Refusal}
+use Rattle.compare.specs.declared.Ordered.{Ordered}
+use Rattle.compare.specs.declared.Ordered.the-variants.{Less, Equal, Greater, Refused}
 
 -- ---- numbers
 
@@ -85,14 +86,12 @@ unicodeCasemap =
     0x69 ∷ 0x3B ∷ 0x75 ∷ 0x6E ∷ 0x69 ∷ 0x63 ∷ 0x6F ∷ 0x64 ∷ 0x65 ∷ 0x2D
     ∷ 0x63 ∷ 0x61 ∷ 0x73 ∷ 0x65 ∷ 0x6D ∷ 0x61 ∷ 0x70 ∷ []
 
--- the word of an order by its number: 1 less, 2 equal, 3 greater
-abbrev pub orderWord : ℕ → List ℕ
-orderWord n = cond (eqb n 1) less (cond (eqb n 2) equal greater)
-
 -- the words of an answer
-abbrev pub wordsOf : Outcome → List ℕ
-wordsOf (gives values) = orderWord (getD values 0 0)
-wordsOf (refused r) = refusedWord ++ decimal (r .number)
+abbrev pub wordsOf : Ordered → List ℕ
+wordsOf Less = less
+wordsOf Equal = equal
+wordsOf Greater = greater
+wordsOf (Refused r) = refusedWord ++ decimal (r .number)
 
 -- ---- lines
 
@@ -105,8 +104,8 @@ abbrev pub numbered : List ℕ → ℕ → List ℕ
 numbered word n = ended (word ++ decimal n)
 
 -- the line of an answer
-abbrev pub answerLine : Outcome → List ℕ
-answerLine t = ended (wordsOf t)
+abbrev pub answerLine : Ordered → List ℕ
+answerLine answer = ended (wordsOf answer)
 
 -- the first line
 abbrev pub headingLine : List ℕ

@@ -11,14 +11,16 @@ pub use words::put_count;
 pub use words::put_heading;
 pub use words::put_table_refusal;
 ghost use mathlib.Core.Path.{_≡_};
+ghost use mathlib.Core.List.{[], _∷_};
 ghost use mathlib.Core.Option.{none};
-ghost use Prim.Native.Nat.{suc, _<_};
-ghost use lib.ListN.{length, take, drop};
+ghost use Prim.Native.Nat.{_<_};
+ghost use lib.ListN.{length};
 ghost use Rattle.terms.specs.Refusals.{refused, refusal};
+ghost use Rattle.table.specs.Table.{table};
 ghost use Rattle.decompose.specs.TableCheck.{tableRefusal};
-ghost use Rattle.compare.specs.Compare.{orderOutcome};
-ghost use Rattle.compare.specs.Promises.{Orders};
-ghost use Rattle.pairing.specs.Pairing.{tabOf};
+ghost use Rattle.prepare.specs.Calls.{Called};
+ghost use Rattle.compare.specs.Compare.{orderOutcome, orderValues};
+ghost use Rattle.pairing.specs.Pairing.{tabOf, callAround};
 ghost use Rattle.pairing.specs.Promises.{tabFound, Judges};
 
 // The longest line that is taken, in octets: two texts of terms::TEXT_MOST and the tab.
@@ -42,8 +44,8 @@ pub fn judge(
     first_key: &mut [u8],
     second_key: &mut [u8],
 ) -> Ordered
-    requires { ⌜ tableRefusal (now entries) (now pool) ≡ none ⌝ }
-    ensures { λ r. ⌜ Judges (now (line .entry)) (now (entries .entry)) (now (pool .entry)) (now («first_key» .entry)) (now («second_key» .entry)) r (now («first_key» .exit)) (now («second_key» .exit)) ⌝ }
+    requires { ⌜ tableRefusal (table (now entries) (now pool)) ≡ none ⌝ }
+    ensures { λ r. ⌜ Judges (now (line .entry)) (table (now (entries .entry)) (now (pool .entry))) (now («first_key» .entry)) (now («second_key» .entry)) r (now («first_key» .exit) ∷ now («second_key» .exit) ∷ []) ⌝ }
 {
     if PAIR_MOST < line.len() {
         return refuse(terms::REFUSED_TEXT_LENGTH);
@@ -64,8 +66,8 @@ fn order_around(
     first_key: &mut [u8],
     second_key: &mut [u8],
 ) -> Ordered
-    requires { ⌜ (at < length (now line)) × (tableRefusal (now entries) (now pool) ≡ none) ⌝ }
-    ensures { λ r. ⌜ Orders 3 (take at (now (line .entry))) (drop (suc at) (now (line .entry))) (now (entries .entry)) (now (pool .entry)) (now («first_key» .entry)) (now («second_key» .entry)) r (now («first_key» .exit)) (now («second_key» .exit)) ⌝ }
+    requires { ⌜ (at < length (now line)) × (tableRefusal (table (now entries) (now pool)) ≡ none) ⌝ }
+    ensures { λ r. ⌜ Called orderOutcome orderValues (callAround (now (line .entry)) (table (now (entries .entry)) (now (pool .entry))) (now («first_key» .entry)) (now («second_key» .entry)) at) r (now («first_key» .exit) ∷ now («second_key» .exit) ∷ []) ⌝ }
 {
     let next = at + 1;
     compare::order_accepted(

@@ -2,11 +2,12 @@
 //
 // Each function asks for room for WORDS_MOST octets, more than any line has, and answers how many octets it wrote.
 use compare::Ordered;
+use octets::put_octets;
 ghost use Prim.Native.Nat.{_+_, _≤_};
 ghost use lib.ListN.{length};
-ghost use Rattle.compare.specs.Compare.{orderOutcome};
+ghost use Rattle.octets.specs.Put.{Puts};
 ghost use Rattle.pairing.specs.Words.{wordsMost, decimal, numbered, answerLine, headingLine, countLine, tableLine};
-ghost use Rattle.pairing.specs.Promises.{Puts};
+
 
 // Room for any of these lines, in octets.
 pub const WORDS_MOST: usize = 35;
@@ -20,12 +21,12 @@ const ZERO: u8 = 0x30;
 // Writes the line of an answer.
 pub fn put_answer(answer: Ordered, out: &mut [u8]) -> usize
     requires { ⌜ wordsMost ≤ length (now out) ⌝ }
-    ensures { λ r. ⌜ Puts (answerLine (orderOutcome answer)) (now (out .entry)) r (now (out .exit)) ⌝ }
+    ensures { λ r. ⌜ Puts (answerLine answer) (now (out .entry)) r (now (out .exit)) ⌝ }
 {
     match answer {
-        Ordered::Less => put(b"less\n", out),
-        Ordered::Equal => put(b"equal\n", out),
-        Ordered::Greater => put(b"greater\n", out),
+        Ordered::Less => put_octets(b"less\n", out),
+        Ordered::Equal => put_octets(b"equal\n", out),
+        Ordered::Greater => put_octets(b"greater\n", out),
         Ordered::Refused(r) => put_numbered(b"refused ", r.number as u64, out),
     }
 }
@@ -35,7 +36,7 @@ pub fn put_heading(out: &mut [u8]) -> usize
     requires { ⌜ wordsMost ≤ length (now out) ⌝ }
     ensures { λ r. ⌜ Puts headingLine (now (out .entry)) r (now (out .exit)) ⌝ }
 {
-    put(b"collation i;unicode-casemap\n", out)
+    put_octets(b"collation i;unicode-casemap\n", out)
 }
 
 // Writes the line that comes last: how many lines were read.
@@ -59,7 +60,7 @@ fn put_numbered(word: &[u8], n: u64, out: &mut [u8]) -> usize
     requires { ⌜ length (now word) + 21 ≤ length (now out) ⌝ }
     ensures { λ r. ⌜ Puts (numbered (now (word .entry)) n) (now (out .entry)) r (now (out .exit)) ⌝ }
 {
-    let at = put(word, out);
+    let at = put_octets(word, out);
     let digits = put_decimal(n, &mut out[at..]);
     let end = at + digits;
     out[end] = LINE_FEED;
@@ -78,17 +79,4 @@ fn put_decimal(n: u64, out: &mut [u8]) -> usize
     let at = put_decimal(n / 10, out);
     out[at] = ZERO + (n % 10) as u8;
     at + 1
-}
-
-// Writes octets.
-fn put(octets: &[u8], out: &mut [u8]) -> usize
-    requires { ⌜ length (now octets) ≤ length (now out) ⌝ }
-    ensures { λ r. ⌜ Puts (now (octets .entry)) (now (out .entry)) r (now (out .exit)) ⌝ }
-{
-    let mut i = 0;
-    while i < octets.len() {
-        out[i] = octets[i];
-        i += 1;
-    }
-    i
 }

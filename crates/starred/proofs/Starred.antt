@@ -7,13 +7,13 @@ use lib.Dec.{isEq}
 use Rattle.terms.specs.Lists.{all, lowest, each, total, begins}
 use Rattle.utf8.specs.Characters.{charactersAfter, charactersBy}
 use Rattle.utf8.specs.Utf8.{encode, trailed, decode}
+use Rattle.octets.specs.Order.{orderOf}
+use Rattle.table.specs.Layout.{entryCount, wholeEntries, numberAt}
 use Rattle.table.specs.Table.{countsBelow, notAbove, formRefusal, entryOf}
 use Rattle.decompose.specs.Levels.{within, full, asks}
 use Rattle.decompose.specs.Steps.{stepsKey, stepsLookups}
 use Rattle.decompose.specs.TableCheck.{tableRefusal}
-use Rattle.prepare.specs.Keys.{prepared}
 use Rattle.prepare.specs.Calls.{callRefusal}
-use Rattle.compare.specs.KeyOrder.{orderOf}
 use Rattle.occurrence.specs.Occurrence.{occurrence}
 use Rattle.search.specs.Covering.{holder, covering}
 use Rattle.search.specs.Substring.{substringValues}
@@ -25,5 +25,5 @@ holds e = isEq (orderOf (e .asked) (e .said))
 
 -- the claim
 pub starred-hold : all holds starred ≡ true
-unfolding lowest each total begins encode trailed decode charactersAfter charactersBy countsBelow notAbove formRefusal entryOf within full asks stepsKey stepsLookups tableRefusal prepared callRefusal orderOf occurrence holder covering substringValues starred
+unfolding lowest each total begins encode trailed decode charactersAfter charactersBy entryCount wholeEntries numberAt countsBelow notAbove formRefusal entryOf within full asks stepsKey stepsLookups tableRefusal callRefusal orderOf occurrence holder covering substringValues starred
 starred-hold = refl

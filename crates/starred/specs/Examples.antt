@@ -4,12 +4,17 @@
 -- Assumes nothing.
 use Prim.Native.Nat.{ℕ}
 use mathlib.Core.List.{List, [], _∷_, _++_}
+use mathlib.Core.Option.{Option, none, some}
 use lib.ListN.{replicate}
-use Rattle.terms.specs.Refusals.{row}
+use Rattle.terms.specs.Collations.{collationOf}
+use Rattle.terms.specs.Lists.{each}
+use Rattle.terms.specs.Refusals.{Outcome, row}
+use Rattle.table.specs.Table.{table}
 use Rattle.decompose.specs.TableCheck.{tableAnswer}
-use Rattle.prepare.specs.Calls.{prepareAnswer, prepareLeaves}
-use Rattle.compare.specs.Compare.{orderAnswer}
-use Rattle.search.specs.Substring.{substringAnswer}
+use Rattle.prepare.specs.Calls.{Call, oneCall, twoCall, callRefusal, answerOf, buffersAfter}
+use Rattle.prepare.specs.Preparing.{preparedValues}
+use Rattle.compare.specs.Compare.{orderValues}
+use Rattle.search.specs.Substring.{soughtValues}
 
 -- ---- table T: code point, titlecase, start and count of each entry, and the pool
 
@@ -32,21 +37,40 @@ poolT =
 abbrev pub blank : List ℕ
 blank = replicate 6 0xEE
 
+-- an answer of n values as a row, and no row where there is no answer
+abbrev pub rowOf : ℕ → Option Outcome → List ℕ
+rowOf n none = []
+rowOf n (some o) = row n o
+
+-- what a call answers by its n values, and what it leaves in its key buffers, one after another
+abbrev pub answering : ℕ → (Call → Option (List ℕ)) → Call → List ℕ
+answering n values c = rowOf n (answerOf (callRefusal c) (values c))
+
+abbrev pub leaving : Call → List ℕ
+leaving c = each (λ (b : List ℕ). b) (buffersAfter (callRefusal c) c)
+
+-- a call on one text, and on two, under collation 3 with table T
+abbrev pub onText : List ℕ → Call
+onText text = oneCall (collationOf 3) text entriesT poolT blank
+
+abbrev pub onTexts : List ℕ → List ℕ → Call
+onTexts s t = twoCall (collationOf 3) s t entriesT poolT blank blank
+
 -- preparing a text: number, place, detail, valid, lookup count, length of the key, where it stands; then the key buffer
 abbrev pub preparing : List ℕ → List ℕ
-preparing text = row 4 (prepareAnswer 3 text entriesT poolT blank) ++ prepareLeaves 3 text entriesT poolT blank
+preparing text = answering 4 preparedValues (onText text) ++ leaving (onText text)
 
 -- ordering two texts: number, place, detail, and 1 less, 2 equal, 3 greater
 abbrev pub ordering : List ℕ → List ℕ → List ℕ
-ordering s t = row 1 (orderAnswer 3 s t entriesT poolT blank blank)
+ordering s t = answering 1 orderValues (onTexts s t)
 
 -- seeking a text in another: number, place, detail, 1 match or 2 no-match, key start, key end, text start, text end
 abbrev pub seeking : List ℕ → List ℕ → List ℕ
-seeking s t = row 5 (substringAnswer 3 s t entriesT poolT blank blank)
+seeking s t = answering 5 soughtValues (onTexts s t)
 
 -- checking a table: number, place, detail
 abbrev pub checking : List ℕ → List ℕ → List ℕ
-checking es pool = row 0 (tableAnswer es pool)
+checking entries pool = row 0 (tableAnswer (table entries pool))
 
 -- ---- the rows
 

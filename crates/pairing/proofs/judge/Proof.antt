@@ -31,10 +31,7 @@ refuse-requires c κs = search needs
 -- over 8,193 octets
 returns : tie.Need-returns
 returns c =
-    let s = c .before .before .before .before .before .before .before in
-    let a = s .args in
-    judges-long (a .line .now) (a .entries .now) (a .pool .now) (a .first-key .now) (a .second-key .now) (c .refuse .result)
-    (c .before .if1 .taken) (c .refuse .ensures)
+    judges-long (c .before .if1 .taken) (c .refuse .ensures)
 
 find-tab-requires : tie.Need-find-tab-requires
 find-tab-requires c κs = search needs
@@ -66,11 +63,7 @@ returns-2 c =
     let called = c .before .before .before .before in
     let known = called .before .before .before .before in
     let found = known .before .before in
-    let a = start found .args in
-    judges-compared (a .line .now) (a .entries .now) (a .pool .now) (a .first-key .now) (a .second-key .now)
-    (called .order-around .result) (known .tab .given .0 .0)
-    (called .order-around .last .1 .1 .1 .1 .0) (called .order-around .last .1 .1 .1 .1 .1 .0)
-    (found .before .if1 .left) (tab-at known) (called .order-around .ensures)
+    judges-compared (found .before .if1 .left) (tab-at known) (called .order-around .ensures)
 
 -- no tab
 returns-3 : tie.Need-returns-3
@@ -78,8 +71,7 @@ returns-3 c =
     let found = c .before .before .before in
     let a = start found .args in
     let nowhere : tabOf (a .line .now) ≡ none = sym (found .find-tab .ensures) ∙ ap tabFound (c .before .enum-told .given .1) in
-    judges-tabless (a .line .now) (a .entries .now) (a .pool .now) (a .first-key .now) (a .second-key .now) (c .refuse2 .result)
-    (found .before .if1 .left) nowhere (c .refuse2 .ensures)
+    judges-tabless (found .before .if1 .left) nowhere (c .refuse2 .ensures)
 
 pub judge-spec : {M : Type 1} → statement M
 judge-spec =

@@ -8,7 +8,7 @@ use mathlib.Core.List.{[]}
 use lib.ListN.{length, length-set}
 use Rattle.pairing.specs.Words.{digit, decimal, decimal-digit, decimal-more}
 use Rattle.pairing.proofs.Numbers.{length-decimal-more}
-use Rattle.pairing.proofs.Writing.{puts-none, puts-more}
+use Rattle.octets.proofs.Puts.{puts-none, puts-more}
 use borrow.Fn.Kinds.{In, Out}
 use borrow.Fn.PlainCycle.{Measures, is, falls, and}
 use Rattle.pairing.proofs.words.put_decimal.Reads as reads

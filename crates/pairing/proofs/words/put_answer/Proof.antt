@@ -7,29 +7,29 @@ use Rattle.pairing.proofs.words.put_answer.Tie as tie
 enum-told : tie.Need-enum-told
 enum-told c = search needs
 
-slice-aggregate-put : tie.Need-slice-aggregate-put
-slice-aggregate-put c = search needs
+slice-aggregate-put-octets : tie.Need-slice-aggregate-put-octets
+slice-aggregate-put-octets c = search needs
 
-put-requires : tie.Need-put-requires
-put-requires c κs = search needs
+put-octets-requires : tie.Need-put-octets-requires
+put-octets-requires c κs = search needs
 
 enum-told-2 : tie.Need-enum-told-2
 enum-told-2 c = search needs
 
-slice-aggregate-put-2 : tie.Need-slice-aggregate-put-2
-slice-aggregate-put-2 c = search needs
+slice-aggregate-put-octets-2 : tie.Need-slice-aggregate-put-octets-2
+slice-aggregate-put-octets-2 c = search needs
 
-put-requires-2 : tie.Need-put-requires-2
-put-requires-2 c κs = search needs
+put-octets-requires-2 : tie.Need-put-octets-requires-2
+put-octets-requires-2 c κs = search needs
 
 enum-told-3 : tie.Need-enum-told-3
 enum-told-3 c = search needs
 
-slice-aggregate-put-3 : tie.Need-slice-aggregate-put-3
-slice-aggregate-put-3 c = search needs
+slice-aggregate-put-octets-3 : tie.Need-slice-aggregate-put-octets-3
+slice-aggregate-put-octets-3 c = search needs
 
-put-requires-3 : tie.Need-put-requires-3
-put-requires-3 c κs = search needs
+put-octets-requires-3 : tie.Need-put-octets-requires-3
+put-octets-requires-3 c κs = search needs
 
 enum-known-answer : tie.Need-enum-known-answer
 enum-known-answer c = search needs
@@ -50,7 +50,7 @@ same-length c = search needs
 returns : tie.Need-returns
 returns c =
     let called = c .before .before in
-    rw (called .before .before .before .enum-told .given .1) (called .put .ensures)
+    rw (called .before .before .before .enum-told .given .1) (called .put-octets .ensures)
 
 same-length-2 : tie.Need-same-length-2
 same-length-2 c = search needs
@@ -59,7 +59,7 @@ same-length-2 c = search needs
 returns-2 : tie.Need-returns-2
 returns-2 c =
     let called = c .before .before in
-    rw (called .before .before .before .enum-told2 .given .1) (called .put2 .ensures)
+    rw (called .before .before .before .enum-told2 .given .1) (called .put-octets2 .ensures)
 
 same-length-3 : tie.Need-same-length-3
 same-length-3 c = search needs
@@ -68,7 +68,7 @@ same-length-3 c = search needs
 returns-3 : tie.Need-returns-3
 returns-3 c =
     let called = c .before .before in
-    rw (called .before .before .before .enum-told3 .given .1) (called .put3 .ensures)
+    rw (called .before .before .before .enum-told3 .given .1) (called .put-octets3 .ensures)
 
 same-length-4 : tie.Need-same-length-4
 same-length-4 c = search needs
@@ -84,14 +84,14 @@ put-answer-spec =
     tie.close
     (tie.spec
     enum-told
-    slice-aggregate-put
-    put-requires
+    slice-aggregate-put-octets
+    put-octets-requires
     enum-told-2
-    slice-aggregate-put-2
-    put-requires-2
+    slice-aggregate-put-octets-2
+    put-octets-requires-2
     enum-told-3
-    slice-aggregate-put-3
-    put-requires-3
+    slice-aggregate-put-octets-3
+    put-octets-requires-3
     enum-known-answer
     slice-aggregate-put-numbered
     cast-put-numbered

@@ -1,4 +1,4 @@
--- Where a definition of the crate has a default, it is never reached where a contract cites it.
+-- A line that 2 and 9 don't refuse is cut at its first tab: there is one, and the two texts and the tab between them are the line.
 -- Assumes nothing.
 use mathlib.Core.Path.{_≡_, refl}
 use Prim.Native.Nat.{ℕ, suc, _<_}
@@ -14,16 +14,14 @@ use Rattle.terms.specs.Lists.{there, orElse}
 use Rattle.terms.specs.Refusals.{check, refusal}
 use Rattle.terms.proofs.Checks.{orElse-neither, when-none}
 use Rattle.terms.proofs.Lowest.{lowest-some}
-use Rattle.pairing.specs.Pairing.{pairMost, isTab, tabOf, firstText, secondText, pairRefusal}
+use Rattle.pairing.specs.Pairing.{pairMost, isTab, tabOf, pairRefusal}
 
 -- a line is cut at its first tab: what stands before it is the first text, and what stands after it the second
 pub record CutAtTab (line : List ℕ) : Type 0 where
   pub at : ℕ
   pub tab : tabOf line ≡ some at
   pub within : at < length line
-  pub first : firstText line ≡ take at line
-  pub second : secondText line ≡ drop (suc at) line
-  pub whole : line ≡ firstText line ++ (0x09 ∷ secondText line)
+  pub whole : line ≡ take at line ++ (0x09 ∷ drop (suc at) line)
 
 -- a line that 2 and 9 don't refuse has a tab
 tab-there : (line : List ℕ) → pairRefusal line ≡ none → there (tabOf line) ≡ true
@@ -46,7 +44,5 @@ pair-cut line e = go (tabOf line) refl (tab-there line e)
           at = i;
           tab = q;
           within = found .below;
-          first = rw q;
-          second = rw q;
-          whole = rw q (rw octet at (split-at line i 0 (found .below)));
+          whole = rw octet at (split-at line i 0 (found .below));
         }
