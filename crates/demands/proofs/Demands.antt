@@ -19,7 +19,7 @@ use Rattle.terms.specs.Collations.{collationOf}
 use Rattle.terms.specs.Lists.{there, lowest}
 use Rattle.terms.specs.Refusals.{refusal, first, Outcome, refused, gives, checkOutcome}
 use Rattle.terms.specs.declared.Check.{Check}
-use Rattle.terms.specs.declared.Check.the-variants.{Passed}
+use Rattle.terms.specs.declared.Check.the-variants.{Passed, Refused as TableRefused}
 use Rattle.terms.specs.declared.Collation.{Collation}
 use Rattle.terms.specs.declared.Collation.the-variants.{Octet, AsciiCasemap, UnicodeCasemap}
 use Rattle.terms.specs.declared.Refusal.{Refusal}
@@ -98,8 +98,11 @@ call-first c x = rw (sym (first-callChecks c)) (first-applies (callChecks c) x)
 
 -- `check_table` refuses exactly as document 01 says
 pub check-refused : (t : Table) {r : Check} → checkOutcome r ≡ tableAnswer t
-    → (x : Refusal) → (checkOutcome r ≡ refused x) ↔ (tableRefusal t ≡ some x)
-check-refused t h x = (λ e. answer-refused (tableRefusal t) [] x (sym e ∙ h), λ e. h ∙ rw e)
+    → (x : Refusal) → (r ≡ TableRefused x) ↔ (tableRefusal t ≡ some x)
+check-refused t {r} h x = (
+  λ e. answer-refused (tableRefusal t) [] x (ap checkOutcome (sym e) ∙ h),
+  λ e. checkOutcome-inj r (TableRefused x) (h ∙ rw e),
+)
 
 -- and so does a call on texts: `prepare`, `equal`, `order` and `substring`
 pub call-refused : {R : Type 0} {outcome : R → Outcome} {values : Call → Option (List ℕ)} {c : Call} {r : R} {after : List (List ℕ)}

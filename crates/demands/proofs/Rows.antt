@@ -5,14 +5,14 @@ use Prim.Native.Nat.{ℕ, zero, suc}
 use mathlib.Core.Logic.{_↔_}
 use mathlib.Core.Option.{Option, none, some}
 use mathlib.Core.List.{List, [], _∷_, _++_}
-use lib.ListN.{replicate}
+use lib.ListN.{length, replicate}
 use Rattle.terms.specs.Lists.{orElse}
 use Rattle.terms.specs.Refusals.{first}
 use Rattle.terms.specs.declared.Refusal.{Refusal}
 use Rattle.terms.proofs.Checks.{orElse-assoc}
 use Rattle.terms.proofs.Tests.{none-some}
 use Rattle.keys.specs.Keys.{PreparedText}
-use Rattle.prepare.specs.Calls.{Lent, Call, lengths, preparedIn, lengthCheck, lengthChecks, tableCheck, collationCheck, roomChecks, roomRefusal, callRefusal}
+use Rattle.prepare.specs.Calls.{Lent, Call, lengths, preparedIn, lengthCheck, lengthChecks, tableCheck, collationCheck, roomCheck, roomChecks, roomRefusal, callRefusal}
 use Rattle.demands.specs.Demands.{FirstApplies, lengthRow, roomRow, callChecks}
 
 -- ---- the first check that applies
@@ -47,7 +47,7 @@ first-lengthRow place (n ∷ ns) = ap (orElse (lengthCheck place n)) (first-leng
 first-roomRow : (place : ℕ) (ls : List Lent) (ps : List PreparedText) → first (roomRow place ls ps) ≡ roomChecks place ls ps
 first-roomRow place [] ps = refl
 first-roomRow place (l ∷ ls) [] = refl
-first-roomRow place (l ∷ ls) (p ∷ ps) = ap (orElse _) (first-roomRow (suc place) ls ps)
+first-roomRow place (l ∷ ls) (p ∷ ps) = ap (orElse (roomCheck place (length (l .buffer)) p)) (first-roomRow (suc place) ls ps)
 
 -- its refusal, one check after another
 pub callRefusal-row : (c : Call)
