@@ -16,7 +16,7 @@ use mathlib.Core.Option.{Option, none, some}
 use mathlib.Core.List.{List, [], _∷_, map}
 use lib.ListN.{length}
 use Rattle.terms.specs.Collations.{collationOf}
-use Rattle.terms.specs.Lists.{there, lowest}
+use Rattle.terms.specs.Lists.{there}
 use Rattle.terms.specs.Refusals.{refusal, first, Outcome, refused, gives, checkOutcome}
 use Rattle.terms.specs.declared.Check.{Check}
 use Rattle.terms.specs.declared.Check.the-variants.{Passed, Refused as TableRefused}
@@ -29,10 +29,9 @@ use Rattle.terms.proofs.Checks.{answer-given, answer-refused}
 use Rattle.terms.proofs.Injective.{checkOutcome-inj}
 use Rattle.utf8.specs.Utf8.{Character, characters}
 use Rattle.table.specs.Mapping.{Mapping}
-use Rattle.table.specs.Layout.{entryCount}
 use Rattle.table.specs.Table.{Table, refusedAt, formChecks, formRefusal, titleOf, partsOf, mappingOf}
 use Rattle.decompose.specs.Steps.{stepsKey}
-use Rattle.decompose.specs.TableCheck.{faultyLevel, tableRefusal, tableAnswer}
+use Rattle.decompose.specs.TableCheck.{levelFault, tableRefusal, tableAnswer}
 use Rattle.decompose.proofs.Demand3.{UnfoldsWell, Sound, accepted-exactly, accepted-level, accepted-lookups, accepted-key}
 use Rattle.keys.specs.Keys.{PreparedText, upper, prepared, keyOf, roomFor}
 use Rattle.keys.specs.declared.Summary.{Summary}
@@ -88,8 +87,7 @@ first-applies = first-exactly
 pub table-first : (t : Table) (x : Refusal) → (tableRefusal t ≡ some x) ↔ FirstApplies (tableChecks t) x
 unfolding tableRefusal formRefusal
 table-first t x =
-    let seven = refusedAt 7 (lowest (faultyLevel t) (entryCount (t .entries))) in
-    rw (sym (first-append (formChecks t) (seven ∷ []))) (first-applies (tableChecks t) x)
+    rw (sym (first-append (formChecks t) (refusedAt 7 (levelFault t) ∷ []))) (first-applies (tableChecks t) x)
 
 -- that of a call on texts is the first of 1; 2 of each text; 3 to 7; 8 of each key. (That of a line is written as such a row:
 -- `lineRefusal`.)

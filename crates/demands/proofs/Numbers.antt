@@ -19,7 +19,7 @@ use Rattle.terms.proofs.Checks.{orElse-none, orElse-assoc}
 use Rattle.terms.proofs.Tests.{none-some}
 use Rattle.table.specs.Layout.{entryCount}
 use Rattle.table.specs.Table.{Table, faultySize, faultyCode, faultyNumber, entryFault, refusedAt, formRefusal, mappingOf}
-use Rattle.decompose.specs.TableCheck.{faultyLevel, tableRefusal}
+use Rattle.decompose.specs.TableCheck.{levelFault, tableRefusal}
 use Rattle.keys.specs.Keys.{PreparedText, prepared, roomFor}
 use Rattle.prepare.specs.Calls.{Lent, Call, call, lengths, preparedIn, collationCheck, lengthCheck, lengthChecks, tableCheck, readyRefusal, roomCheck, roomChecks, roomRefusal, callRefusal}
 use Rattle.prepare.proofs.CallRefusals.{callRefusal-ready}
@@ -71,7 +71,7 @@ unfolding tableRefusal formRefusal
 numbers-table t =
     numbers-row (faultySize t) (lowest (faultyCode (t .entries)) (entryCount (t .entries))) (entryFault t)
     (lowest (faultyNumber (t .pool)) (length (t .pool)))
-    (lowest (faultyLevel t) (entryCount (t .entries)))
+    (levelFault t)
 
 numbers-under : (o : Option Collation) (t : Table) → Numbers 3 7 (tableCheck o t)
 numbers-under none t = numbers-none 3 7

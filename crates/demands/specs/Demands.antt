@@ -8,16 +8,14 @@ use mathlib.Core.Bool.{true}
 use mathlib.Core.Option.{Option, none, some}
 use mathlib.Core.List.{List, [], _∷_, _++_}
 use lib.ListN.{length, take, drop, replicate}
-use Rattle.terms.specs.Lists.{lowest}
 use Rattle.terms.specs.Refusals.{refusal, Outcome, refused, gives}
 use Rattle.terms.specs.declared.Collation.{Collation}
 use Rattle.terms.specs.declared.Refusal.{Refusal}
 use Rattle.table.specs.Mapping.{Mapping}
-use Rattle.table.specs.Layout.{entryCount}
 use Rattle.table.specs.Table.{Table, refusedAt, formChecks}
 use Rattle.utf8.specs.Utf8.{Character}
 use Rattle.decompose.specs.Steps.{stepsKey, stepsLookups}
-use Rattle.decompose.specs.TableCheck.{faultyLevel}
+use Rattle.decompose.specs.TableCheck.{levelFault}
 use Rattle.keys.specs.Keys.{PreparedText, keyOf}
 use Rattle.keys.specs.declared.Summary.{Summary}
 use Rattle.prepare.specs.Calls.{Lent, Call, lengths, preparedIn, collationCheck, lengthCheck, tableCheck, roomCheck}
@@ -42,7 +40,7 @@ pub record FirstApplies (checks : List (Option Refusal)) (x : Refusal) : Type 0 
 
 -- the checks of a table: 3, 4, 5, 6, 7
 abbrev pub tableChecks : Table → List (Option Refusal)
-tableChecks t = formChecks t ++ refusedAt 7 (lowest (faultyLevel t) (entryCount (t .entries))) ∷ []
+tableChecks t = formChecks t ++ refusedAt 7 (levelFault t) ∷ []
 
 -- 2 for each text in its order, numbered from a place
 abbrev pub lengthRow : ℕ → List ℕ → List (Option Refusal)
