@@ -8,11 +8,11 @@ use lib.ListN.{length, take}
 use borrow.Author.Tests.{lt-ltb, le-ltb, eq-eqb, ne-eqb}
 use Rattle.terms.specs.Refusals.{lineMost, partsMost}
 use Rattle.ucd.specs.Fields.{fields, field, codePoint, decomposition, titlecase}
-use Rattle.ucd.specs.Builder.{said}
+use Rattle.ucd.specs.Lines.{said}
 use Rattle.ucd.specs.Promises.{fieldsFault, lineFault, saidBy, Read}
-use Rattle.ucd.specs.declared.reading.Said.{Said}
-use Rattle.ucd.specs.declared.reading.Reading.{Reading}
-use Rattle.ucd.specs.declared.reading.Reading.the-variants.{Says, Refused}
+use Rattle.ucd.specs.declared.Said.{Said}
+use Rattle.ucd.specs.declared.Reading.{Reading}
+use Rattle.ucd.specs.declared.Reading.the-variants.{Says, Refused}
 
 -- ---- the fields 0, 5 and 14
 

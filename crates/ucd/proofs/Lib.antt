@@ -1,17 +1,5 @@
-pub mod Answers
 pub mod Walks
 pub mod Cutting
 pub mod Digits
 pub mod Listing
 pub mod Faults
-pub mod Judging
-pub mod Copies
-pub mod Adding
-pub mod Cases
-pub mod Accepted
-pub mod Appending
-pub mod Grown
-pub mod BuiltForm
-pub mod Outcome
-pub mod BuiltMapping
-pub mod Defaults

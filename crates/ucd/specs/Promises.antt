@@ -1,27 +1,25 @@
--- What the contracts of the inner functions cite: where a piece ends, the answers of reading as options, what a line says by its
--- three fields, and the checks by the lengths of the slices.
+-- What the contracts of the inner functions cite: where a piece ends, the answers of reading as options, and what a line says by its
+-- three fields.
 -- Assumes nothing.
 use mathlib.Core.Path.{_≡_}
-use Prim.Native.Nat.{ℕ, suc, _+_, _/_, _≤_}
-use mathlib.Core.Bool.{Bool, cond, _&&_, _||_, not}
+use Prim.Native.Nat.{ℕ, suc, _≤_}
+use mathlib.Core.Bool.{cond, not}
 use mathlib.Core.Option.{Option, none, some, Option·getD}
 use mathlib.Core.List.{List, [], _∷_}
 use lib.Dec.{ltb, eqb}
 use lib.ListN.{length, take}
-use Rattle.terms.specs.CodePoints.{scalar}
-use Rattle.terms.specs.Lists.{all, there, orElse}
-use Rattle.terms.specs.Refusals.{lineMost, entriesMost, poolMost, partsMost, refusal, first}
+use Rattle.terms.specs.Lists.{there, orElse}
+use Rattle.terms.specs.Refusals.{lineMost, partsMost, refusal, first}
 use Rattle.terms.specs.declared.Refusal.{Refusal}
 use Rattle.ucd.specs.Fields.{fields, field, codePoint, decomposition, titlecase}
-use Rattle.ucd.specs.Builder.{Mapped, Built, said, maps, lineCheck}
-use Rattle.ucd.specs.declared.LineState.{LineState}
+use Rattle.ucd.specs.Lines.{Mapped, said, lineCheck}
 use Rattle.ucd.specs.declared.numbers.Number.{Number}
 use Rattle.ucd.specs.declared.numbers.Number.the-variants.{Value, Malformed}
 use Rattle.ucd.specs.declared.parts.Parts.{Parts}
 use Rattle.ucd.specs.declared.parts.Parts.the-variants.{Count, Malformed as Unlisted}
-use Rattle.ucd.specs.declared.reading.Said.{Said}
-use Rattle.ucd.specs.declared.reading.Reading.{Reading}
-use Rattle.ucd.specs.declared.reading.Reading.the-variants.{Says, Refused}
+use Rattle.ucd.specs.declared.Said.{Said}
+use Rattle.ucd.specs.declared.Reading.{Reading}
+use Rattle.ucd.specs.declared.Reading.the-variants.{Says, Refused}
 
 -- ---- cutting
 
@@ -98,63 +96,3 @@ Agrees (Refused n) out m = Unit {0}
 pub record Read (fault : Option Refusal) (m : Mapped) (r : Reading) (out : List ℕ) : Type 0 where
   pub refusal : readingRefusal r ≡ fault
   pub says : Agrees r out m
-
--- ---- the checks of the state and the slices, which look at the slices' lengths alone
-
--- a state that no line can have left
-abbrev pub impossibleBy : LineState → ℕ → ℕ → Bool
-impossibleBy st entries pool =
-    ltb (entries / 4) (st .«entries_used»)
-    || ltb pool (st .«pool_used»)
-    || ltb entriesMost (st .«entries_used»)
-    || ltb poolMost (st .«pool_used»)
-    || ltb 0x110000 (st .next)
-
--- whether what was read is a mapping
-abbrev pub mapsBy : Said → Bool
-mapsBy s = not (eqb (s .title) (s .code) && eqb (s .count) 0)
-
--- the code point, its titlecase or a part is not scalar
-abbrev pub unscalar : Mapped → Bool
-unscalar m = not (scalar (m .code) && scalar (m .title) && all scalar (m .parts))
-
--- no room for an entry of `count` parts, or a limit passed
-abbrev pub crowdedBy : LineState → ℕ → ℕ → ℕ → Bool
-crowdedBy st count entries pool =
-    ltb (entries / 4) (st .«entries_used» + 1)
-    || ltb entriesMost (st .«entries_used» + 1)
-    || ltb pool (st .«pool_used» + count)
-    || ltb poolMost (st .«pool_used» + count)
-
--- the first of the refusals 25 to 27 of what a line says
-abbrev pub saidFault : LineState → Mapped → ℕ → ℕ → Option Refusal
-saidFault st m entries pool =
-    first
-    (lineCheck (maps m && unscalar m) 25
-    ∷ lineCheck (ltb (m .code) (st .next)) 26
-    ∷ lineCheck (maps m && crowdedBy st (length (m .parts)) entries pool) 27
-    ∷ [])
-
--- the refusal of a line, if there is one
-abbrev pub refusalBy : LineState → List ℕ → ℕ → ℕ → Option Refusal
-refusalBy st line entries pool =
-    orElse (lineCheck (impossibleBy st entries pool) 28) (orElse (lineFault line) (saidFault st (said line) entries pool))
-
--- ---- storing
-
--- the state and the two slices together
-abbrev pub built : LineState → List ℕ → List ℕ → Built
-built st es pool = record { state = st; entries = es; pool = pool }
-
--- there is room for an entry of `count` parts, and no limit is passed
-pub record Room (st : LineState) (count entries pool : ℕ) : Type 0 where
-  pub entry : st .«entries_used» + 1 ≤ entries / 4
-  pub entry-limit : st .«entries_used» + 1 ≤ entriesMost
-  pub parts : st .«pool_used» + count ≤ pool
-  pub parts-limit : st .«pool_used» + count ≤ poolMost
-
--- the state that came back and both slices are those of the builder
-pub record Left (b : Built) (st : LineState) (es parts : List ℕ) : Type 0 where
-  pub state : st ≡ b .state
-  pub entries : es ≡ b .entries
-  pub pool : parts ≡ b .pool
