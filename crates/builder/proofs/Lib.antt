@@ -1,12 +1,3 @@
-pub mod Answers
-pub mod Judging
-pub mod Copies
 pub mod Adding
-pub mod Cases
-pub mod Accepted
-pub mod Appending
-pub mod Grown
-pub mod BuiltForm
-pub mod Outcome
-pub mod BuiltMapping
-pub mod Defaults
+pub mod Copies
+pub mod Refusals

@@ -1,68 +1,21 @@
--- The builder: what a line says, its refusals in the paper's order, and what it leaves in the state and the two slices.
+-- The builder: the refusals of a line in the paper's order, what a line leaves in the state and the two slices, and what it answers.
 -- Assumes nothing.
 use mathlib.Core.Path.{_≡_}
-use Prim.Native.Nat.{ℕ, _+_, _*_, _/_}
+use Prim.Native.Nat.{ℕ, _+_, _*_}
 use mathlib.Core.Bool.{Bool, cond, _&&_, _||_, not}
 use mathlib.Core.Option.{Option, none, some}
-use mathlib.Core.List.{List, [], _∷_}
-use lib.Dec.{ltb, eqb}
+use mathlib.Core.List.{List, [], _∷_, _++_}
+use lib.Dec.{ltb}
 use lib.ListN.{length}
 use Rattle.terms.specs.CodePoints.{scalar}
-use Rattle.terms.specs.Lists.{all, empty, there, putAt}
-use Rattle.terms.specs.Refusals.{lineMost, entriesMost, poolMost, first, answer, Outcome, refused, gives}
+use Rattle.terms.specs.Lists.{all, putAt}
+use Rattle.terms.specs.Refusals.{entriesMost, poolMost, first, answer, Outcome, refused, gives}
 use Rattle.terms.specs.declared.Refusal.{Refusal}
-use Rattle.ucd.specs.Fields.{fields, field, codePoint, decomposition, titlecase}
-use Rattle.ucd.specs.Lines.{Mapped, said, codeSaid, lineCheck}
+use Rattle.table.specs.Table.{entryCount}
+use Rattle.ucd.specs.Lines.{Properties, lineProperties, saysNothing, lineCheck, readingChecks}
 use Rattle.builder.specs.declared.LineState.{LineState}
 use Rattle.builder.specs.declared.Line.{Line}
 use Rattle.builder.specs.declared.Line.the-variants.{Taken, Refused}
-
--- ---- what a line says
-
--- a line with a mapping; "Lines that say nothing (no parts, titlecase none or itself ..)" are the others
-abbrev pub maps : Mapped → Bool
-maps s = not (eqb (s .title) (s .code) && empty (s .parts))
-
--- ---- refusals
-
--- 28: "more used than the slices hold, in whole entries, over the limits of 3, or last above 110000 hex"
-abbrev pub impossible : LineState → List ℕ → List ℕ → Bool
-impossible st es pool =
-    ltb (length es / 4) (st .«entries_used»)
-    || ltb (length pool) (st .«pool_used»)
-    || ltb entriesMost (st .«entries_used»)
-    || ltb poolMost (st .«pool_used»)
-    || ltb 0x110000 (st .next)
-
--- 25: "a line with a mapping has a surrogate in field 0, 5 or 14" (the code points are at most 10FFFF, so no other is not scalar)
-abbrev pub surrogate : Mapped → Bool
-surrogate s = maps s && not (scalar (s .code) && scalar (s .title) && all scalar (s .parts))
-
--- 27: "no room for the entry or its parts, or a limit of 3 passed"
-abbrev pub crowded : LineState → Mapped → List ℕ → List ℕ → Bool
-crowded st s es pool =
-    maps s
-    && (ltb (length es / 4) (st .«entries_used» + 1)
-    || ltb entriesMost (st .«entries_used» + 1)
-    || ltb (length pool) (st .«pool_used» + length (s .parts))
-    || ltb poolMost (st .«pool_used» + length (s .parts)))
-
--- the refusal of a line, if there is one: 28, 20 to 27
-unfoldable pub lineRefusal : LineState → List ℕ → List ℕ → List ℕ → Option Refusal
-lineRefusal st line es pool =
-    first
-    (lineCheck (impossible st es pool) 28
-    ∷ lineCheck (ltb lineMost (length line)) 20
-    ∷ lineCheck (not (eqb (length (fields line)) 15)) 21
-    ∷ lineCheck (not (there (codePoint (field 0 line)))) 22
-    ∷ lineCheck (not (there (decomposition (field 5 line)))) 23
-    ∷ lineCheck (not (there (titlecase (codeSaid line) (field 14 line)))) 24
-    ∷ lineCheck (surrogate (said line)) 25
-    ∷ lineCheck (ltb (codeSaid line) (st .next)) 26
-    ∷ lineCheck (crowded st (said line) es pool) 27
-    ∷ [])
-
--- ---- what a line leaves
 
 -- the state and the two slices
 pub record Built : Type 0 where
@@ -70,38 +23,91 @@ pub record Built : Type 0 where
   pub entries : List ℕ
   pub pool : List ℕ
 
--- an entry for what a line says, its parts at the next free place of the pool
-abbrev pub entryFor : LineState → Mapped → List ℕ
-entryFor st s = s .code ∷ s .title ∷ st .«pool_used» ∷ length (s .parts) ∷ []
+-- the same by their values
+abbrev pub built : LineState → List ℕ → List ℕ → Built
+built st es pool = record { state = st; entries = es; pool = pool }
 
--- one entry appended, and its parts
-abbrev pub appended : Built → Mapped → Built
-appended b s = record {
+-- ---- refusals, over slices that hold so many whole entries and pool numbers
+
+-- "more used than the slices hold, in whole entries, over the limits of 3": so many entries and pool numbers are too many
+abbrev pub overfull : ℕ → ℕ → ℕ → ℕ → Bool
+overfull used filled entries pool = ltb entries used || ltb entriesMost used || ltb pool filled || ltb poolMost filled
+
+-- 28: "state impossible (more used than the slices hold .., or last above 110000 hex)"
+abbrev pub impossible : LineState → ℕ → ℕ → Bool
+impossible st entries pool = overfull (st .«entries_used») (st .«pool_used») entries pool || ltb 0x110000 (st .next)
+
+-- 25: "a line with a mapping has a surrogate in field 0, 5 or 14" (the code points are at most 10FFFF, so no other is not scalar)
+abbrev pub surrogate : Properties → Bool
+surrogate p = not (saysNothing p) && not (scalar (p .code) && scalar (p .title) && all scalar (p .parts))
+
+-- 27: "no room for the entry or its parts, or a limit of 3 passed"
+abbrev pub crowded : LineState → ℕ → ℕ → Properties → Bool
+crowded st entries pool p =
+    not (saysNothing p) && overfull (st .«entries_used» + 1) (st .«pool_used» + length (p .parts)) entries pool
+
+-- 25 to 27: of what a line gives
+abbrev pub propertiesChecks : LineState → ℕ → ℕ → Properties → List (Option Refusal)
+propertiesChecks st entries pool p =
+    lineCheck (surrogate p) 25
+    ∷ lineCheck (ltb (p .code) (st .next)) 26
+    ∷ lineCheck (crowded st entries pool p) 27
+    ∷ []
+
+-- the same of a line; one that gives nothing is refused before
+abbrev pub givenChecks : LineState → ℕ → ℕ → Option Properties → List (Option Refusal)
+givenChecks st entries pool none = []
+givenChecks st entries pool (some p) = propertiesChecks st entries pool p
+
+-- all checks of a line "in this order": 28, 20 to 24, 25 to 27
+abbrev pub lineChecks : LineState → ℕ → ℕ → List ℕ → List (Option Refusal)
+lineChecks st entries pool line =
+    lineCheck (impossible st entries pool) 28
+    ∷ readingChecks line ++ givenChecks st entries pool (lineProperties line)
+
+-- the refusal of a line, if there is one
+unfoldable pub lineRefusal : Built → List ℕ → Option Refusal
+lineRefusal b line = first (lineChecks (b .state) (entryCount (b .entries)) (length (b .pool)) line)
+
+-- ---- what a line leaves
+
+-- an entry for what a line gives, its parts at the next free place of the pool
+abbrev pub entryFor : LineState → Properties → List ℕ
+entryFor st p = p .code ∷ p .title ∷ st .«pool_used» ∷ length (p .parts) ∷ []
+
+-- "It appends at most one entry": the entry and its parts, each at the next free place
+abbrev pub appended : Built → Properties → Built
+appended b p = record {
   state = record {
     «entries_used» = b .state .«entries_used» + 1;
-    «pool_used» = b .state .«pool_used» + length (s .parts);
-    next = s .code + 1;
+    «pool_used» = b .state .«pool_used» + length (p .parts);
+    next = p .code + 1;
   };
-  entries = putAt (b .state .«entries_used» * 4) (entryFor (b .state) s) (b .entries);
-  pool = putAt (b .state .«pool_used») (s .parts) (b .pool);
+  entries = putAt (b .state .«entries_used» * 4) (entryFor (b .state) p) (b .entries);
+  pool = putAt (b .state .«pool_used») (p .parts) (b .pool);
 }
 
 -- "Lines that say nothing .. only move the last code point"
-abbrev pub passed : Built → Mapped → Built
-passed b s = record {
-  state = record { «entries_used» = b .state .«entries_used»; «pool_used» = b .state .«pool_used»; next = s .code + 1 };
+abbrev pub moved : Built → Properties → Built
+moved b p = record {
+  state = record { «entries_used» = b .state .«entries_used»; «pool_used» = b .state .«pool_used»; next = p .code + 1 };
   entries = b .entries;
   pool = b .pool;
 }
 
--- after a line that is not refused, and after one that is: "state and slices stay on refusal"
-abbrev pub builtBy : Option Refusal → Built → Mapped → Built
-builtBy none b s = cond (maps s) (appended b s) (passed b s)
-builtBy (some r) b s = b
+-- after a line that gives these properties
+abbrev pub added : Built → Properties → Built
+added b p = cond (saysNothing p) (moved b p) (appended b p)
+
+-- after a line, by its refusal and what it gives: "state and slices stay on refusal"
+abbrev pub addedBy : Option Refusal → Option Properties → Built → Built
+addedBy none none b = b
+addedBy none (some p) b = added b p
+addedBy (some r) given b = b
 
 -- the state and slices after a line
 unfoldable pub addLine : Built → List ℕ → Built
-addLine b line = builtBy (lineRefusal (b .state) line (b .entries) (b .pool)) b (said line)
+addLine b line = addedBy (lineRefusal b line) (lineProperties line) b
 
 -- after a sequence of lines, one after another
 unfoldable pub addLines : Built → List (List ℕ) → Built
@@ -130,11 +136,9 @@ stateAfter (Refused r st) = st
 
 -- what a line answers
 abbrev pub lineAnswer : Built → List ℕ → Outcome
-lineAnswer b line = answer (lineRefusal (b .state) line (b .entries) (b .pool)) (stateNumbers (addLine b line .state))
+lineAnswer b line = answer (lineRefusal b line) (stateNumbers (addLine b line .state))
 
--- a line was added: the answer, the state that comes back, and both slices
-pub record Added (b : Built) (line : List ℕ) (r : Line) (es : List ℕ) (parts : List ℕ) : Type 0 where
+-- a line was added: the answer, and the state and slices that are left
+pub record Added (b : Built) (line : List ℕ) (r : Line) (es pool : List ℕ) : Type 0 where
   pub answered : lineOutcome r ≡ lineAnswer b line
-  pub state : stateAfter r ≡ addLine b line .state
-  pub entries : es ≡ addLine b line .entries
-  pub pool : parts ≡ addLine b line .pool
+  pub left : built (stateAfter r) es pool ≡ addLine b line

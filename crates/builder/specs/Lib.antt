@@ -1,3 +1,2 @@
 pub mod Builder
 pub mod Promises
-pub mod Built

@@ -1,4 +1,5 @@
-// Lines of UnicodeData.txt to entries and pool (document 01, "Lines of UnicodeData.txt"; UAX #44 for the fields).
+// A table from lines of UnicodeData.txt (document 01, "Lines of UnicodeData.txt"): each line is read by the crate ucd, and its entry
+// and parts are stored here.
 //
 // The definitions stand in specs/. No public function has a `requires`: any state, any octets and any slices get an answer, and
 // nothing is written unless the line is not refused.
@@ -7,8 +8,14 @@ mod storing;
 
 use terms::Refusal;
 use ucd::Reading;
-ghost use Rattle.builder.specs.Builder.{Added};
-ghost use Rattle.builder.specs.Promises.{built};
+ghost use mathlib.Core.Path.{_≡_};
+ghost use Prim.Native.Nat.{_≤_};
+ghost use lib.ListN.{length};
+ghost use Rattle.terms.specs.Refusals.{partsMost, refusal};
+ghost use Rattle.table.specs.Table.{entryCount};
+ghost use Rattle.ucd.specs.Lines.{properties};
+ghost use Rattle.builder.specs.Builder.{built, Added};
+ghost use Rattle.builder.specs.Promises.{Fits, Adds};
 
 // The builder's state: entries used, pool numbers used, and one more than the last code point, or 0. All zeros is fresh.
 pub struct LineState {
@@ -28,17 +35,56 @@ pub fn add_line(state: LineState, line: &[u8], entries: &mut [u32], pool: &mut [
     ensures { λ r. ⌜ Added (built state (now (entries .entry)) (now (pool .entry))) (now (line .entry))
         r (now (entries .exit)) (now (pool .exit)) ⌝ }
 {
-    let mut parts = [0u32; terms::PARTS_MOST];
-    let reading = checks::judge(state, line, entries.len(), pool.len(), &mut parts);
-    match reading {
-        Reading::Refused(number) => Line::Refused(
-            Refusal {
-                number,
-                place: 0,
-                detail: 0,
-            },
-            state,
-        ),
-        Reading::Says(s) => Line::Taken(storing::build(state, s, &parts, entries, pool)),
+    if checks::is_impossible(state, entries.len() / 4, pool.len()) {
+        return refused(terms::REFUSED_STATE, state);
     }
+    let mut parts = [0u32; terms::PARTS_MOST];
+    let reading = ucd::read_line(line, &mut parts);
+    match reading {
+        Reading::Read { code, title, count } => {
+            add_given(state, code, title, &parts[..count], entries, pool)
+        }
+        Reading::Refused(number) => refused(number, state),
+    }
+}
+
+// Adds what a line gives, unless 25, 26 or 27 applies.
+fn add_given(
+    state: LineState,
+    code: u32,
+    title: u32,
+    parts: &[u32],
+    entries: &mut [u32],
+    pool: &mut [u32],
+) -> Line
+    requires { ⌜ Fits (state .«entries_used») (state .«pool_used») (entryCount (now entries)) (length (now pool)) ⌝ }
+    requires { ⌜ length (now parts) ≤ partsMost ⌝ }
+    ensures { λ r. ⌜ Adds (built state (now (entries .entry)) (now (pool .entry))) (properties code title (now (parts .entry)))
+        r (now (entries .exit)) (now (pool .exit)) ⌝ }
+{
+    if checks::has_surrogate(code, title, parts) {
+        return refused(terms::REFUSED_SURROGATE, state);
+    }
+    let c = code as usize;
+    if c < state.next {
+        return refused(terms::REFUSED_ORDER, state);
+    }
+    if checks::is_crowded(state, code, title, parts, entries.len() / 4, pool.len()) {
+        return refused(terms::REFUSED_NO_ROOM, state);
+    }
+    Line::Taken(storing::store(state, code, title, parts, entries, pool))
+}
+
+// A line refused by its number, with the state that came in.
+fn refused(number: u32, state: LineState) -> Line
+    ensures { λ r. ⌜ r ≡ Line.Refused (refusal number 0 0) state ⌝ }
+{
+    Line::Refused(
+        Refusal {
+            number,
+            place: 0,
+            detail: 0,
+        },
+        state,
+    )
 }

@@ -1,65 +1,46 @@
 // What a line that is not refused leaves: an entry and its parts, and the state.
 use crate::LineState;
 use crate::checks;
-use ucd::Said;
 ghost use mathlib.Core.Path.{_≡_};
-ghost use mathlib.Core.Bool.{false, _&&_};
-ghost use mathlib.Core.Option.{none};
+ghost use mathlib.Core.Bool.{false};
 ghost use Prim.Native.Nat.{_+_, _≤_};
 ghost use lib.ListN.{length};
 ghost use Rattle.terms.specs.Lists.{putAt};
 ghost use Rattle.terms.specs.Refusals.{partsMost};
-ghost use Rattle.ucd.specs.Promises.{mapped};
-ghost use Rattle.builder.specs.Builder.{appended, builtBy};
-ghost use Rattle.builder.specs.Promises.{mapsBy, crowdedBy, built, Room, Left};
+ghost use Rattle.table.specs.Table.{entryCount};
+ghost use Rattle.ucd.specs.Lines.{properties};
+ghost use Rattle.builder.specs.Builder.{built, crowded, added};
 
-// Appends the entry of a line with a mapping, and its parts; a line that says nothing only moves the last code point.
-pub fn build(
+// Appends the entry of a line and its parts; a line that says nothing only moves the last code point.
+pub fn store(
     state: LineState,
-    s: Said,
+    code: u32,
+    title: u32,
     parts: &[u32],
     entries: &mut [u32],
     pool: &mut [u32],
 ) -> LineState
-    requires { ⌜ (s .count ≤ partsMost) × (partsMost ≤ length (now parts)) ⌝ }
-    requires { ⌜ mapsBy s && crowdedBy state (s .count) (length (now entries)) (length (now pool)) ≡ false ⌝ }
-    ensures { λ r. ⌜ Left (builtBy none (built state (now (entries .entry)) (now (pool .entry))) (mapped s (now (parts .entry))))
-        r (now (entries .exit)) (now (pool .exit)) ⌝ }
+    requires { ⌜ length (now parts) ≤ partsMost ⌝ }
+    requires { ⌜ crowded state (entryCount (now entries)) (length (now pool)) (properties code title (now parts)) ≡ false ⌝ }
+    ensures { λ r. ⌜ built r (now (entries .exit)) (now (pool .exit))
+        ≡ added (built state (now (entries .entry)) (now (pool .entry))) (properties code title (now (parts .entry))) ⌝ }
 {
-    if checks::is_mapping(s) {
-        return append(state, s, parts, entries, pool);
-    }
-    let next = s.code as usize + 1;
-    LineState {
-        entries_used: state.entries_used,
-        pool_used: state.pool_used,
-        next,
-    }
-}
-
-// Appends an entry and its parts.
-fn append(
-    state: LineState,
-    s: Said,
-    parts: &[u32],
-    entries: &mut [u32],
-    pool: &mut [u32],
-) -> LineState
-    requires { ⌜ (s .count ≤ partsMost) × (partsMost ≤ length (now parts)) ⌝ }
-    requires { ⌜ Room state (s .count) (length (now entries)) (length (now pool)) ⌝ }
-    ensures { λ r. ⌜ Left (appended (built state (now (entries .entry)) (now (pool .entry))) (mapped s (now (parts .entry))))
-        r (now (entries .exit)) (now (pool .exit)) ⌝ }
-{
+    let next = code as usize + 1;
     let used = state.entries_used;
     let start = state.pool_used;
-    let count = s.count;
-    let entry = [s.code, s.title, start as u32, count as u32];
+    if checks::says_nothing(code, title, parts) {
+        return LineState {
+            entries_used: used,
+            pool_used: start,
+            next,
+        };
+    }
+    let entry = [code, title, start as u32, parts.len() as u32];
     put_at(&entry, entries, used * 4);
-    put_at(&parts[..count], pool, start);
-    let next = s.code as usize + 1;
+    put_at(parts, pool, start);
     LineState {
         entries_used: used + 1,
-        pool_used: start + count,
+        pool_used: start + parts.len(),
         next,
     }
 }

@@ -2,4 +2,3 @@ pub mod Walks
 pub mod Cutting
 pub mod Digits
 pub mod Listing
-pub mod Faults

@@ -1,25 +1,21 @@
--- What the contracts of the inner functions cite: where a piece ends, the answers of reading as options, and what a line says by its
--- three fields.
+-- What the contracts of the inner functions cite: where a piece ends, the answers of reading as options, and what a line's reading
+-- answers.
 -- Assumes nothing.
 use mathlib.Core.Path.{_≡_}
 use Prim.Native.Nat.{ℕ, suc, _≤_}
-use mathlib.Core.Bool.{cond, not}
-use mathlib.Core.Option.{Option, none, some, Option·getD}
+use mathlib.Core.Bool.{cond}
+use mathlib.Core.Option.{Option, none, some}
 use mathlib.Core.List.{List, [], _∷_}
-use lib.Dec.{ltb, eqb}
-use lib.ListN.{length, take}
-use Rattle.terms.specs.Lists.{there, orElse}
-use Rattle.terms.specs.Refusals.{lineMost, partsMost, refusal, first}
-use Rattle.terms.specs.declared.Refusal.{Refusal}
-use Rattle.ucd.specs.Fields.{fields, field, codePoint, decomposition, titlecase}
-use Rattle.ucd.specs.Lines.{Mapped, said, lineCheck}
+use lib.Dec.{eqb}
+use lib.ListN.{take}
+use Rattle.terms.specs.Refusals.{partsMost, refusal}
+use Rattle.ucd.specs.Lines.{properties, lineProperties, readingRefusal}
 use Rattle.ucd.specs.declared.numbers.Number.{Number}
 use Rattle.ucd.specs.declared.numbers.Number.the-variants.{Value, Malformed}
 use Rattle.ucd.specs.declared.parts.Parts.{Parts}
 use Rattle.ucd.specs.declared.parts.Parts.the-variants.{Count, Malformed as Unlisted}
-use Rattle.ucd.specs.declared.Said.{Said}
 use Rattle.ucd.specs.declared.Reading.{Reading}
-use Rattle.ucd.specs.declared.Reading.the-variants.{Says, Refused}
+use Rattle.ucd.specs.declared.Reading.the-variants.{Read, Refused}
 
 -- ---- cutting
 
@@ -54,45 +50,13 @@ pub record Listed (parts : Option (List ℕ)) (r : Parts) (out : List ℕ) : Typ
 
 -- ---- a line
 
--- the first of the refusals 22 to 24 of fields 0, 5 and 14
-abbrev pub fieldsFault : List ℕ → List ℕ → List ℕ → Option Refusal
-fieldsFault f0 f5 f14 =
-    first
-    (lineCheck (not (there (codePoint f0))) 22
-    ∷ lineCheck (not (there (decomposition f5))) 23
-    ∷ lineCheck (not (there (titlecase (Option·getD (codePoint f0) 0) f14))) 24
-    ∷ [])
+-- a line was read, with its parts at the front of a slice: none of 20 to 24 applies, and it gives these properties
+pub record Gives (line out : List ℕ) (code title count : ℕ) : Type 0 where
+  pub unrefused : readingRefusal line ≡ none
+  pub given : lineProperties line ≡ some (properties code title (take count out))
+  pub within : count ≤ partsMost
 
--- the first of the refusals 20 to 24 of a line
-abbrev pub lineFault : List ℕ → Option Refusal
-lineFault line =
-    orElse
-    (lineCheck (ltb lineMost (length line)) 20)
-    (orElse (lineCheck (not (eqb (length (fields line)) 15)) 21) (fieldsFault (field 0 line) (field 5 line) (field 14 line)))
-
--- what fields 0, 5 and 14 say
-abbrev pub saidBy : List ℕ → List ℕ → List ℕ → Mapped
-saidBy f0 f5 f14 = record {
-  code = Option·getD (codePoint f0) 0;
-  title = Option·getD (titlecase (Option·getD (codePoint f0) 0) f14) 0;
-  parts = Option·getD (decomposition f5) [];
-}
-
--- what was read, with its parts at the front of a slice
-abbrev pub mapped : Said → List ℕ → Mapped
-mapped s out = record { code = s .code; title = s .title; parts = take (s .count) out }
-
--- the refusal that was answered, if there is one
-abbrev pub readingRefusal : Reading → Option Refusal
-readingRefusal (Says s) = none
-readingRefusal (Refused n) = some (refusal n 0 0)
-
--- an answer that is no refusal says what the line says, with at most as many parts as may be
-abbrev pub Agrees : Reading → List ℕ → Mapped → Type 0
-Agrees (Says s) out m = (mapped s out ≡ m) × (s .count ≤ partsMost)
-Agrees (Refused n) out m = Unit {0}
-
--- a line was read: its refusal, or what it says with the parts at the front of a slice
-pub record Read (fault : Option Refusal) (m : Mapped) (r : Reading) (out : List ℕ) : Type 0 where
-  pub refusal : readingRefusal r ≡ fault
-  pub says : Agrees r out m
+-- the answer of reading a line
+abbrev pub Reads : List ℕ → List ℕ → Reading → Type 0
+Reads line out (Read code title count) = Gives line out code title count
+Reads line out (Refused n) = readingRefusal line ≡ some (refusal n 0 0)

@@ -1,79 +1,98 @@
--- `builder::add_line` meets its contract: what was judged of the line, and what was stored of it, are what `addLine` says.
+-- `builder::add_line` meets its contract: 28, then what the reading of the line gives, then what becomes of what the line gives.
 -- Assumes nothing.
-use mathlib.Core.Path.{subst}
-use native.Mathlib.Omega.{arith}
-use borrow.Author.Needs.{needs}
+use mathlib.Core.Path.{_≡_, refl, sym, _∙_, subst}
+use mathlib.Core.Bool.{false, _||_}
 use mathlib.Core.List.{List}
 use Prim.Native.Nat.{ℕ, _≤_}
-use lib.ListN.{length}
+use native.Mathlib.Omega.{arith}
+use borrow.Author.Needs.{needs}
+use lib.ListN.{length, take}
+use lib.Seq.{length-take-le}
 use Rattle.terms.specs.Refusals.{partsMost}
-use Rattle.ucd.specs.Lines.{said}
-use Rattle.ucd.specs.Promises.{mapped, Read}
-use Rattle.builder.specs.Promises.{refusalBy}
-use Rattle.ucd.specs.declared.Reading.{Reading}
-use Rattle.ucd.specs.declared.Reading.the-variants.{Says, Refused}
-use Rattle.builder.proofs.Judging.{judged-room}
-use Rattle.builder.proofs.Adding.{added-refused, added-taken}
+use Rattle.terms.proofs.Checks.{or-left}
+use Rattle.table.specs.Table.{entryCount}
+use Rattle.ucd.specs.Promises.{Gives, Reads}
+use Rattle.builder.specs.Builder.{Built, built, impossible}
+use Rattle.builder.proofs.Refusals.{overfull-fits, lineRefusal-28, lineRefusal-possible}
+use Rattle.builder.proofs.Adding.{addedBy-refused, addedBy-line}
 use Rattle.builder.proofs.add_line.Statement.{statement}
 use Rattle.builder.proofs.add_line.Tie as tie
 
--- where the line was judged: the arguments, the slice of parts, and what is known by the answer
-abbrev start-of : tie.After-judge → tie.Start
-start-of j = j .before .before .before .before .before
+-- at the entry: the state and slices
+abbrev before : tie.Start → Built
+before s = built (s .args .state) (s .args .entries .now) (s .args .pool .now)
 
-abbrev parts-of : tie.After-judge → List ℕ
-parts-of j = j .judge .last .1 .1 .1 .1 .0
+-- where the line was read: the state is possible
+abbrev start-of : tie.After-read-line → tie.Start
+start-of r = r .before .before .before .before .before .before .before
 
-abbrev Answered : tie.After-judge → Reading → Type 0
-Answered j answer =
-    let a = start-of j .args in
-    Read
-    (refusalBy (a .state) (a .line .now) (length (a .entries .now)) (length (a .pool .now)))
-    (said (a .line .now))
-    answer
-    (parts-of j)
+abbrev out-of : tie.After-read-line → List ℕ
+out-of r = r .read-line .last .1 .0
 
--- where it says something
-abbrev judged : tie.After-reading2 → tie.After-judge
-judged g = g .before .before .before
+possible : (r : tie.After-read-line)
+    → let b = before (start-of r) in
+    impossible (b .state) (entryCount (b .entries)) (length (b .pool)) ≡ false
+possible r = sym (r .before .before .before .is-impossible .ensures) ∙ r .before .before .if1 .left
 
-says : (g : tie.After-reading2) → Answered (judged g) (Says (g .reading2 .given .0 .0))
-says g = subst (Answered (judged g)) (g .reading2 .given .1) (judged g .judge .ensures)
+-- where it gives properties
+abbrev read : tie.After-known-told → tie.After-read-line
+read g = g .before .before .before .before
 
-slice-aggregate-judge : tie.Need-slice-aggregate-judge
-slice-aggregate-judge c = search needs
+abbrev count : tie.After-known-told → ℕ
+count g = g .before .reading .given .0 .1 .1 .0
 
-judge-requires : tie.Need-judge-requires
-judge-requires c κs = search needs
+given : (g : tie.After-known-told)
+    → Gives (start-of (read g) .args .line .now) (out-of (read g))
+    (g .before .reading .given .0 .0) (g .before .reading .given .0 .1 .0) (count g)
+given g =
+    subst (Reads (start-of (read g) .args .line .now) (out-of (read g)))
+    (g .before .reading .given .1)
+    (read g .read-line .ensures)
+
+-- as many parts as were counted
+counted : (g : tie.After-known-told) → length (take (count g) (out-of (read g))) ≡ count g
+counted g = length-take-le (count g) (out-of (read g)) (omega (arith, given g .within, read g .read-line .kept .1 .0))
+
+is-impossible-requires : tie.Need-is-impossible-requires
+is-impossible-requires c κs = search needs
+
+refused-requires : tie.Need-refused-requires
+refused-requires c κs = search needs
+
+-- an impossible state
+returns : tie.Need-returns
+returns c =
+    let called = c .before .before in
+    let b = before (called .before .before .before .before) in
+    rw (c .refused .ensures)
+    (addedBy-line (lineRefusal-28 b _ (sym (called .is-impossible .ensures) ∙ c .before .if1 .taken)) refl (addedBy-refused b refl))
+
+slice-aggregate-read-line : tie.Need-slice-aggregate-read-line
+slice-aggregate-read-line c = search needs
+
+read-line-requires : tie.Need-read-line-requires
+read-line-requires c κs = search needs
 
 enum-known-reading : tie.Need-enum-known-reading
 enum-known-reading c = search needs
 
+array-share-prefix-parts : tie.Need-array-share-prefix-parts
+array-share-prefix-parts c = omega (arith, given c .within, read c .read-line .kept .1 .0)
+
+slice-aggregate-add-given : tie.Need-slice-aggregate-add-given
+slice-aggregate-add-given c = sym (counted (c .before))
+
+add-given-requires : tie.Need-add-given-requires
+add-given-requires c κs =
+    let g = c .before .before .before in
+    let b = before (start-of (read g)) in
+    (overfull-fits _ _ _ _ (or-left _ _ (possible (read g))), omega (arith, counted g, given g .within))
+
 enum-known-reading-2 : tie.Need-enum-known-reading-2
 enum-known-reading-2 c = search needs
 
-slice-aggregate-build : tie.Need-slice-aggregate-build
-slice-aggregate-build c = search needs
-
-build-requires : tie.Need-build-requires
-build-requires c κs =
-    let g = c .before .before .before .before in
-    let j = judged g in
-    let a = start-of j .args in
-    let h : partsMost ≤ length (parts-of j) = omega (arith, j .judge .kept .1 .1 .1 .1 .0) in (
-      (says g .says .1, h),
-      judged-room (a .state) (a .line .now) (parts-of j) (length (a .entries .now)) (length (a .pool .now))
-          (g .reading2 .given .0 .0) (omega (arith, says g .says .1)) (says g),
-    )
-
--- refused
-returns : tie.Need-returns
-returns c =
-    let g = c .before in
-    let j = g .before .before .before in
-    let a = start-of j .args in
-    let refused : Answered j (Refused (g .reading .given .0 .0)) = subst (Answered j) (g .reading .given .1) (j .judge .ensures) in
-    added-refused (a .state) (a .line .now) (a .entries .now) (a .pool .now) (g .reading .given .0 .0) (refused .refusal)
+refused-requires-2 : tie.Need-refused-requires-2
+refused-requires-2 c κs = search needs
 
 same-length : tie.Need-same-length
 same-length c = search needs
@@ -81,33 +100,43 @@ same-length c = search needs
 same-length-2 : tie.Need-same-length-2
 same-length-2 c = search needs
 
--- not refused
+-- what the line gives
 returns-2 : tie.Need-returns-2
 returns-2 c =
-    let b = c .before .before .before .before in
-    let g = b .before .before .before .before .before in
-    let j = judged g in
-    let a = start-of j .args in
-    added-taken (a .state) (a .line .now) (a .entries .now) (a .pool .now)
-    (mapped (g .reading2 .given .0 .0) (parts-of j))
-    (b .build .result)
-    (b .build .last .1 .1 .1 .0)
-    (b .build .last .1 .1 .1 .1 .0)
-    (says g .refusal)
-    (says g .says .0)
-    (b .build .ensures)
+    let called = c .before .before .before .before in
+    let g = called .before .before .before .before in
+    addedBy-line
+    (lineRefusal-possible (before (start-of (read g))) _ (possible (read g)) ∙ rw (given g .unrefused, given g .given))
+    (given g .given)
+    (called .add-given .ensures)
+
+-- the reading is refused
+returns-3 : tie.Need-returns-3
+returns-3 c =
+    let g = c .before in
+    let r = g .before .before .before .before in
+    let b = before (start-of r) in
+    let line = start-of r .args .line .now in
+    let read-refused = subst (Reads line (out-of r)) (g .before .reading2 .given .1) (r .read-line .ensures) in
+    rw (c .refused2 .ensures)
+    (addedBy-line (lineRefusal-possible b line (possible r) ∙ rw read-refused) refl (addedBy-refused b refl))
 
 pub add-line-spec : {M : Type 1} → statement M
 add-line-spec =
     tie.close
     (tie.spec
-    slice-aggregate-judge
-    judge-requires
-    enum-known-reading
-    enum-known-reading-2
-    slice-aggregate-build
-    build-requires
+    is-impossible-requires
+    refused-requires
     returns
+    slice-aggregate-read-line
+    read-line-requires
+    enum-known-reading
+    array-share-prefix-parts
+    slice-aggregate-add-given
+    add-given-requires
+    enum-known-reading-2
+    refused-requires-2
     same-length
     same-length-2
-    returns-2)
+    returns-2
+    returns-3)
