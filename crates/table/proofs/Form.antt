@@ -1,10 +1,10 @@
--- What a table of the form has, `formRefusal es pool ≡ none`: its code points are scalar and ascend, each entry's parts are at
--- most 32, lie in the pool and are scalar; and where `entryOf` finds an entry.
+-- What a table of the form has, `formRefusal t ≡ none`: its code points are scalar and ascend, each entry's parts are at most 32, lie
+-- in the pool and are scalar; and where `entryOf` finds an entry.
 -- Assumes nothing.
-use Prim.Native.Nat.{ℕ, zero, suc, _+_, _%_, _≤_, _<_}
+use Prim.Native.Nat.{ℕ, zero, suc, _+_, _≤_, _<_}
 use native.Mathlib.Omega.{arith}
 use native.Mathlib.Decide.{ℕ-discrete}
-use mathlib.Core.Path.{_≡_, refl}
+use mathlib.Core.Path.{_≡_, refl, ap}
 use mathlib.Core.Bool.{Bool, true, false, _||_, not}
 use mathlib.Core.Option.{Option, none, some}
 use mathlib.Core.List.{List, [], _∷_}
@@ -14,11 +14,12 @@ use lib.Seq.{getD-take, getD-drop}
 use borrow.Author.Tests.{leb-false, ltb-false, eqb-true, eq-eqb, ne-eqb, not-false}
 use Rattle.terms.specs.CodePoints.{scalar}
 use Rattle.terms.specs.Lists.{all, lowest, orElse, when}
-use Rattle.terms.specs.Refusals.{entriesMost, check, refusal}
+use Rattle.terms.specs.Refusals.{entriesMost, partsMost, check, refusal}
 use Rattle.terms.proofs.Checks.{or-left, or-right, orElse-neither, when-none}
 use Rattle.terms.proofs.Lists.{all-cons}
 use Rattle.terms.proofs.Lowest.{lowest-is, lowest-some, lowest-none, lowest-nowhere}
-use Rattle.table.specs.Table.{entryCount, codeAt, titleAt, startAt, countAt, faultySize, notAbove, faultyCode, faultyEntry, poolLeft, faultyNumber, refusedAt, entryFault, formRefusal, entryOf, titleIn, titleOf, partsIn, partsOf}
+use Rattle.table.specs.Layout.{entryCount, wholeEntries, codeAt, titleAt, startAt, countAt}
+use Rattle.table.specs.Table.{Table, faultySize, notAbove, faultyCode, faultyEntry, poolLeft, faultyNumber, refusedAt, entryFault, formRefusal, entryOf, titleIn, titleOf, partsIn, partsOf}
 use Rattle.table.specs.Promises.{Ascending}
 
 -- ---- none of the checks applies
@@ -29,86 +30,95 @@ refusedAt-none n none e = refl
 refusedAt-none n (some i) e = cc
 
 -- none of 3 to 6 applies, check by check
-pub record Formed (es pool : List ℕ) : Type 0 where
-  pub size : faultySize es pool ≡ false
-  pub codes : (i : ℕ) → i < entryCount es → faultyCode es i ≡ false
-  pub entries : (i : ℕ) → i < entryCount es → faultyEntry es pool i ≡ false
-  pub whole : poolLeft es pool ≡ false
-  pub numbers : (j : ℕ) → j < length pool → faultyNumber pool j ≡ false
+pub record Formed (t : Table) : Type 0 where
+  pub size : faultySize t ≡ false
+  pub codes : (i : ℕ) → i < entryCount (t .entries) → faultyCode (t .entries) i ≡ false
+  pub entries : (i : ℕ) → i < entryCount (t .entries) → faultyEntry t i ≡ false
+  pub whole : poolLeft t ≡ false
+  pub numbers : (j : ℕ) → j < length (t .pool) → faultyNumber (t .pool) j ≡ false
 
 -- a table of the form passes each check
-pub formed : (es pool : List ℕ) → formRefusal es pool ≡ none → Formed es pool
+pub formed : (t : Table) → formRefusal t ≡ none → Formed t
 unfolding formRefusal
-formed es pool e =
-    let o5 = entryFault es pool in
-    let o6 = lowest (faultyNumber pool) (length pool) in
-    let h3 = orElse-neither (check (faultySize es pool) 3 0 0) _ e in
-    let h4 = orElse-neither (refusedAt 4 (lowest (faultyCode es) (entryCount es))) (orElse (refusedAt 5 o5) (orElse (refusedAt 6 o6) none))
+formed t e =
+    let count = entryCount (t .entries) in
+    let o5 = entryFault t in
+    let o6 = lowest (faultyNumber (t .pool)) (length (t .pool)) in
+    let h3 = orElse-neither (check (faultySize t) 3 0 0) _ e in
+    let h4 = orElse-neither (refusedAt 4 (lowest (faultyCode (t .entries)) count)) (orElse (refusedAt 5 o5) (orElse (refusedAt 6 o6) none))
     (h3 .1) in
     let h5 = orElse-neither (refusedAt 5 o5) (orElse (refusedAt 6 o6) none) (h4 .1) in
     let h6 = orElse-neither (refusedAt 6 o6) none (h5 .1) in
-    let fault = orElse-neither (lowest (faultyEntry es pool) (entryCount es)) (when (poolLeft es pool) (entryCount es))
-    (refusedAt-none 5 o5 (h5 .0)) in
+    let fault = orElse-neither (lowest (faultyEntry t) count) (when (poolLeft t) count) (refusedAt-none 5 o5 (h5 .0)) in
     record {
-      size = when-none (faultySize es pool) (refusal 3 0 0) (h3 .0);
-      codes = lowest-none (faultyCode es) (entryCount es) (refusedAt-none 4 _ (h4 .0));
-      entries = lowest-none (faultyEntry es pool) (entryCount es) (fault .0);
-      whole = when-none (poolLeft es pool) (entryCount es) (fault .1);
-      numbers = lowest-none (faultyNumber pool) (length pool) (refusedAt-none 6 o6 (h6 .0));
+      size = when-none (faultySize t) (refusal 3 0 0) (h3 .0);
+      codes = lowest-none (faultyCode (t .entries)) count (refusedAt-none 4 _ (h4 .0));
+      entries = lowest-none (faultyEntry t) count (fault .0);
+      whole = when-none (poolLeft t) count (fault .1);
+      numbers = lowest-none (faultyNumber (t .pool)) (length (t .pool)) (refusedAt-none 6 o6 (h6 .0));
     }
 
 -- and one that passes each has the form
-pub form-formed : (es pool : List ℕ) → Formed es pool → formRefusal es pool ≡ none
+pub form-formed : (t : Table) → Formed t → formRefusal t ≡ none
 unfolding formRefusal
-form-formed es pool f =
+form-formed t f =
     rw (
       f .size,
-      lowest-nowhere (faultyCode es) (entryCount es) (f .codes),
-      lowest-nowhere (faultyEntry es pool) (entryCount es) (f .entries),
+      lowest-nowhere (faultyCode (t .entries)) (entryCount (t .entries)) (f .codes),
+      lowest-nowhere (faultyEntry t) (entryCount (t .entries)) (f .entries),
       f .whole,
-      lowest-nowhere (faultyNumber pool) (length pool) (f .numbers),
+      lowest-nowhere (faultyNumber (t .pool)) (length (t .pool)) (f .numbers),
     )
 
 -- ---- what a check that was passed says
 
--- a table of a size that is taken has at most 16,384 entries
-pub sound-entries : (es pool : List ℕ) → faultySize es pool ≡ false → entryCount es ≤ entriesMost
-sound-entries es pool e = ltb-false entriesMost (entryCount es) (or-right (not (eqb (length es % 4) 0)) _ (or-left _ _ e))
+-- a table of a size that is taken is whole entries
+pub sound-whole : (t : Table) → faultySize t ≡ false → wholeEntries (t .entries) ≡ true
+sound-whole t e = not-false _ (or-left _ _ (or-left _ _ e))
+
+-- at most 16,384
+pub sound-entries : (t : Table) → faultySize t ≡ false → entryCount (t .entries) ≤ entriesMost
+sound-entries t e =
+    ltb-false entriesMost (entryCount (t .entries)) (or-right (not (wholeEntries (t .entries))) _ (or-left _ _ e))
 
 -- an entry that 4 passes has a scalar titlecase
 pub sound-title : (es : List ℕ) (i : ℕ) → faultyCode es i ≡ false → scalar (titleAt es i) ≡ true
 sound-title es i e = not-false _ (or-right (not (scalar (codeAt es i))) _ (or-left _ _ e))
 
 -- an entry that 5 passes has a count of at most 32
-pub sound-count : (es pool : List ℕ) (i : ℕ) → faultyEntry es pool i ≡ false → countAt es i ≤ 32
-sound-count es pool i e = ltb-false 32 (countAt es i) (or-left _ _ (or-left _ _ (or-left _ _ e)))
+pub sound-count : (t : Table) (i : ℕ) → faultyEntry t i ≡ false → countAt (t .entries) i ≤ partsMost
+sound-count t i e = ltb-false partsMost (countAt (t .entries) i) (or-left _ _ (or-left _ _ (or-left _ _ e)))
 
 -- and parts that lie in the pool
-pub sound-fits : (es pool : List ℕ) (i : ℕ) → faultyEntry es pool i ≡ false → startAt es i + countAt es i ≤ length pool
-sound-fits es pool i e =
-    ltb-false (length pool) (startAt es i + countAt es i) (or-right (ltb 32 (countAt es i) || _) _ (or-left _ _ e))
+pub sound-fits : (t : Table) (i : ℕ) → faultyEntry t i ≡ false
+    → startAt (t .entries) i + countAt (t .entries) i ≤ length (t .pool)
+sound-fits t i e =
+    ltb-false (length (t .pool)) (startAt (t .entries) i + countAt (t .entries) i)
+    (or-right (ltb partsMost (countAt (t .entries) i) || _) _ (or-left _ _ e))
 
 -- ---- a table of the form
 
-module _ (es pool : List ℕ) (form : formRefusal es pool ≡ none) where
+module _ (t : Table) (form : formRefusal t ≡ none) where
   -- its code points ascend
-  pub formed-ascending : Ascending es
+  pub formed-ascending : Ascending (t .entries)
   unfolding notAbove
   formed-ascending i l =
-      leb-false (codeAt es (suc i)) (codeAt es i)
-      (or-right (not (scalar (codeAt es (suc i))) || not (scalar (titleAt es (suc i)))) _ (formed es pool form .codes (suc i) l))
+      leb-false (codeAt (t .entries) (suc i)) (codeAt (t .entries) i)
+      (or-right (not (scalar (codeAt (t .entries) (suc i))) || not (scalar (titleAt (t .entries) (suc i)))) _
+      (formed t form .codes (suc i) l))
 
   -- the parts of an entry lie in the pool
-  pub formed-fits : (i : ℕ) → i < entryCount es → startAt es i + countAt es i ≤ length pool
-  formed-fits i l = sound-fits es pool i (formed es pool form .entries i l)
+  pub formed-fits : (i : ℕ) → i < entryCount (t .entries)
+      → startAt (t .entries) i + countAt (t .entries) i ≤ length (t .pool)
+  formed-fits i l = sound-fits t i (formed t form .entries i l)
 
   -- the titlecase of an entry is scalar
-  pub formed-title : (i : ℕ) → i < entryCount es → scalar (titleAt es i) ≡ true
-  formed-title i l = sound-title es i (formed es pool form .codes i l)
+  pub formed-title : (i : ℕ) → i < entryCount (t .entries) → scalar (titleAt (t .entries) i) ≡ true
+  formed-title i l = sound-title (t .entries) i (formed t form .codes i l)
 
   -- and every number of the pool
-  pub formed-number : (j : ℕ) → j < length pool → scalar (getD pool j 0) ≡ true
-  formed-number j l = not-false (scalar (getD pool j 0)) (formed es pool form .numbers j l)
+  pub formed-number : (j : ℕ) → j < length (t .pool) → scalar (getD (t .pool) j 0) ≡ true
+  formed-number j l = not-false (scalar (getD (t .pool) j 0)) (formed t form .numbers j l)
 
 -- ---- the entry of a code point
 
@@ -147,6 +157,24 @@ entryOf-some es c i e =
     let found = lowest-some (λ k. eqb (codeAt es k) c) (entryCount es) i e in
     (found .below, eqb-true (codeAt es i) c (found .holds))
 
+-- ---- what a table means of a code point
+
+-- one with no entry is its own titlecase
+pub titleOf-none : (es : List ℕ) (c : ℕ) → entryOf es c ≡ none → titleOf es c ≡ c
+titleOf-none es c e = ap (titleIn es c) e
+
+-- and has no parts
+pub partsOf-none : (t : Table) (c : ℕ) → entryOf (t .entries) c ≡ none → partsOf t c ≡ []
+partsOf-none t c e = ap (partsIn t) e
+
+-- one with an entry has the entry's titlecase
+pub titleOf-some : (es : List ℕ) (c i : ℕ) → entryOf es c ≡ some i → titleOf es c ≡ titleAt es i
+titleOf-some es c i e = ap (titleIn es c) e
+
+-- and its parts
+pub partsOf-some : (t : Table) (c i : ℕ) → entryOf (t .entries) c ≡ some i → partsOf t c ≡ partsIn t (some i)
+partsOf-some t c i e = ap (partsIn t) e
+
 -- ---- what a table of the form means
 
 -- a test that holds at each index holds of the list
@@ -164,19 +192,19 @@ all-part f xs n s h = all-getD f (take n (drop s xs)) at
         let m = simp (length-take, length-drop) at l in
         rw (getD-take n (drop s xs) j 0 (omega arith), getD-drop s xs j 0) (h (s + j) (omega arith))
 
-module _ (es pool : List ℕ) (form : formRefusal es pool ≡ none) where
+module _ (t : Table) (form : formRefusal t ≡ none) where
   -- the titlecase of a scalar code point is scalar
-  pub formed-title-scalar : (c : ℕ) → scalar c ≡ true → scalar (titleOf es c) ≡ true
-  formed-title-scalar c h = go (entryOf es c) refl
+  pub formed-title-scalar : (c : ℕ) → scalar c ≡ true → scalar (titleOf (t .entries) c) ≡ true
+  formed-title-scalar c h = go (entryOf (t .entries) c) refl
     where
-      go : (o : Option ℕ) → entryOf es c ≡ o → scalar (titleIn es c o) ≡ true
+      go : (o : Option ℕ) → entryOf (t .entries) c ≡ o → scalar (titleIn (t .entries) c o) ≡ true
       go none e = h
-      go (some i) e = formed-title es pool form i (entryOf-some es c i e .0)
+      go (some i) e = formed-title t form i (entryOf-some (t .entries) c i e .0)
 
   -- the parts of a code point are scalar
-  pub formed-parts-scalar : (c : ℕ) → all scalar (partsOf es pool c) ≡ true
-  formed-parts-scalar c = go (entryOf es c)
+  pub formed-parts-scalar : (c : ℕ) → all scalar (partsOf t c) ≡ true
+  formed-parts-scalar c = go (entryOf (t .entries) c)
     where
-      go : (o : Option ℕ) → all scalar (partsIn es pool o) ≡ true
+      go : (o : Option ℕ) → all scalar (partsIn t o) ≡ true
       go none = refl
-      go (some i) = all-part scalar pool (countAt es i) (startAt es i) (formed-number es pool form)
+      go (some i) = all-part scalar (t .pool) (countAt (t .entries) i) (startAt (t .entries) i) (formed-number t form)

@@ -1,4 +1,6 @@
-pub mod Answers
+pub mod Written
+pub mod Entries
 pub mod Form
+pub mod Appending
 pub mod Search
-pub mod Defaults
+pub mod Unreached

@@ -1,5 +1,5 @@
--- What is left of a search for a code point, `Among es c low size`: where it begins, how a look at an entry makes less of it, and
--- what it says of `entryOf` at its end.
+-- What is left of a search for a code point, `Candidates es c low size`: how a look at an entry makes less of it, and what it says of
+-- `entryOf` at its end.
 -- Assumes nothing.
 use Prim.Native.Nat.{ℕ, _+_, _≤_, _<_}
 use native.Mathlib.Omega.{arith}
@@ -7,8 +7,9 @@ use native.Mathlib.Decide.{ℕ-discrete, decLt}
 use mathlib.Core.Path.{_≡_}
 use mathlib.Core.Option.{none}
 use mathlib.Core.List.{List}
-use Rattle.table.specs.Table.{entryCount, codeAt, entryOf}
-use Rattle.table.specs.Promises.{Ascending, Reached, Among}
+use Rattle.table.specs.Layout.{entryCount, codeAt}
+use Rattle.table.specs.Table.{entryOf}
+use Rattle.table.specs.Promises.{Ascending, Candidates}
 use Rattle.table.proofs.Form.{ascending-lt, entryOf-none}
 
 -- from an entry above a code point on, all are above it
@@ -20,60 +21,53 @@ ascending-above es up c high e k l m = go (ℕ-discrete k high)
     go (yes q) = rw q e
     go (no q) = omega (arith, ascending-lt es up high k (omega arith) m)
 
--- none is within reach
-pub reached-none : {es : List ℕ} {c : ℕ} → Reached es c 0 → entryOf es c ≡ none
-reached-none {es} {c} r = entryOf-none es c (λ k l e. omega (arith, r .above k (omega arith) l))
+-- there are none: the code point has no entry
+pub candidates-none : {es : List ℕ} {c : ℕ} → Candidates es c 0 0 → entryOf es c ≡ none
+candidates-none {es} {c} a = entryOf-none es c (λ k l e. omega (arith, a .above k (omega arith) l))
 
--- all within reach, if there are any
-pub reached→among : {es : List ℕ} {c count : ℕ} → Reached es c count → 0 < count → Among es c 0 count
-reached→among r l = record {
-  positive = l;
-  within = omega (arith, r .within);
-  begin = r .begin l;
-  above = λ k m n. r .above k (omega arith) n;
+-- entry `middle` is at or below: those from it on are left
+pub candidates-up : {es : List ℕ} {c low size : ℕ} → Candidates es c low size
+    → {middle rest : ℕ} → middle + rest ≡ low + size → codeAt es middle ≤ c → Candidates es c middle rest
+candidates-up a q e = record {
+  within = omega (arith, a .within);
+  first = λ l. e;
+  above = λ k m n. a .above k (omega arith) n;
 }
 
-module _ {es : List ℕ} {c low size : ℕ} (a : Among es c low size) where
-  -- entry `middle` is at or below: those from it on are left
-  pub among-up : {middle rest : ℕ} → middle + rest ≡ low + size → 0 < rest → codeAt es middle ≤ c → Among es c middle rest
-  among-up q l e = record {
-    positive = l;
-    within = omega (arith, a .within);
-    begin = e;
-    above = λ k m n. a .above k (omega arith) n;
-  }
-
-module _ {es : List ℕ} (up : Ascending es) {c low size : ℕ} (a : Among es c low size) where
+module _ {es : List ℕ} (up : Ascending es) {c low size : ℕ} (a : Candidates es c low size) where
   -- entry `middle` is above: those before it are left, or any number more
-  pub among-down : (middle : ℕ) {rest : ℕ} → middle ≤ low + rest → rest ≤ size → c < codeAt es middle → Among es c low rest
-  among-down middle {rest} l m e = record {
-    positive = go (decLt low middle);
+  pub candidates-down : (middle : ℕ) {rest : ℕ} → middle ≤ low + rest → rest ≤ size → c < codeAt es middle
+      → Candidates es c low rest
+  candidates-down middle l m e = record {
     within = omega (arith, a .within);
-    begin = a .begin;
+    first = λ n. a .first (omega arith);
     above = λ k n o. ascending-above es up c middle e k (omega arith) o;
   }
-    where
-      go : Dec (low < middle) → 0 < rest
-      go (yes q) = omega arith
-      go (no q) =
-          let above = ascending-above es up c middle e low (omega arith) (omega (arith, a .within, a .positive)) in
-          omega (arith, a .begin)
 
-  -- one is left, and it is another's: none has the code point
-  pub among-none : size ≤ 1 → (codeAt es low ≡ c → ⊥) → entryOf es c ≡ none
-  among-none l ne = entryOf-none es c other
+  -- and it is not the first of them
+  pub candidates-later : (middle : ℕ) → low ≤ middle → 0 < size → c < codeAt es middle → low < middle
+  candidates-later middle l m e = go (ℕ-discrete middle low)
+    where
+      go : Dec (middle ≡ low) → low < middle
+      go (yes q) = let same : c < codeAt es low = rw q at e in absurd (omega (arith, a .first m))
+      go (no q) = omega arith
+
+  -- one is left, and it is another's: the code point has no entry
+  pub candidates-other : 0 < size → size ≤ 1 → (codeAt es low ≡ c → ⊥) → entryOf es c ≡ none
+  candidates-other h l ne = entryOf-none es c other
     where
       other : (k : ℕ) → k < entryCount es → codeAt es k ≡ c → ⊥
       other k m e = go (decLt k low) (decLt low k)
         where
           go : Dec (k < low) → Dec (low < k) → ⊥
-          go (yes b) d = omega (arith, ascending-lt es up k low b (omega (arith, a .within, a .positive)), a .begin)
+          go (yes b) d = omega (arith, ascending-lt es up k low b (omega (arith, a .within)), a .first h)
           go (no b) (yes d) = omega (arith, a .above k (omega arith) m)
           go (no b) (no d) = let same : low ≡ k = omega arith in ne (rw same e)
 
--- the last of them is below: none has the code point
-pub among-past : {es : List ℕ} → Ascending es → {c low size : ℕ} → Among es c low size → (last : ℕ) → last + 1 ≡ low + size
+-- the last of them is below: the code point has no entry
+pub candidates-past : {es : List ℕ} → Ascending es → {c low size : ℕ} → Candidates es c low size
+    → (last : ℕ) → last + 1 ≡ low + size
     → codeAt es last < c → entryOf es c ≡ none
-among-past {es} up {c} a last q e =
-    let one : Among es c last 1 = among-up a q (omega arith) (omega arith) in
-    among-none up one (omega arith) (λ same. omega arith)
+candidates-past {es} up {c} a last q e =
+    let one : Candidates es c last 1 = candidates-up a q (omega arith) in
+    candidates-other up one (omega arith) (omega arith) (λ same. omega arith)

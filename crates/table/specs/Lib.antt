@@ -1,3 +1,4 @@
 pub mod Mapping
+pub mod Layout
 pub mod Table
 pub mod Promises

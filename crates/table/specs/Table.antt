@@ -1,8 +1,7 @@
--- A table: its two slices as lists, the form that it must have (3 to 6), and the mapping that it means.
--- "Two lent slices of 32-bit numbers: the entries, four 32-bit numbers each, and the pool."
+-- A table: its two slices as one value, the form that it must have (3 to 6), and the mapping that it means.
 -- Sums are of plain numbers: nothing wraps.
 -- Assumes nothing.
-use Prim.Native.Nat.{ℕ, zero, suc, _+_, _*_, _/_, _%_}
+use Prim.Native.Nat.{ℕ, zero, suc, _+_}
 use mathlib.Core.Bool.{Bool, false, _&&_, _||_, not}
 use mathlib.Core.Option.{Option, none, some}
 use mathlib.Core.List.{List, [], _∷_}
@@ -12,40 +11,24 @@ use Rattle.terms.specs.CodePoints.{scalar}
 use Rattle.terms.specs.Lists.{lowest, orElse, when}
 use Rattle.terms.specs.Refusals.{entriesMost, poolMost, partsMost, refusal, check, first}
 use Rattle.terms.specs.declared.Refusal.{Refusal}
+use Rattle.table.specs.Layout.{entryCount, wholeEntries, codeAt, titleAt, startAt, countAt}
 use Rattle.table.specs.Mapping.{Mapping}
 
--- ---- entries: "An entry is code point, titlecase (the code point itself if none), pool start, count"
+-- "Two lent slices of 32-bit numbers: the entries, .. and the pool"
+pub record Table : Type 0 where
+  pub entries : List ℕ
+  pub pool : List ℕ
 
--- the number of whole entries
-abbrev pub entryCount : List ℕ → ℕ
-entryCount es = length es / 4
-
--- the code point of entry i
-abbrev pub codeAt : List ℕ → ℕ → ℕ
-codeAt es i = getD es (i * 4) 0
-
--- the titlecase of entry i
-abbrev pub titleAt : List ℕ → ℕ → ℕ
-titleAt es i = getD es (i * 4 + 1) 0
-
--- the pool start of entry i
-abbrev pub startAt : List ℕ → ℕ → ℕ
-startAt es i = getD es (i * 4 + 2) 0
-
--- the count of entry i
-abbrev pub countAt : List ℕ → ℕ → ℕ
-countAt es i = getD es (i * 4 + 3) 0
-
--- "the sum of all earlier counts": of the entries below i
-unfoldable pub countsBelow : List ℕ → ℕ → ℕ
-countsBelow es zero = 0
-countsBelow es (suc i) = countsBelow es i + countAt es i
+-- the table of two slices
+abbrev pub table : List ℕ → List ℕ → Table
+table entries pool = record { entries = entries; pool = pool }
 
 -- ---- the form (refusals 3 to 6), each over the whole table
 
 -- 3: "entry slice not a multiple of 4 long, over 16,384 entries, or pool over 65,536"
-abbrev pub faultySize : List ℕ → List ℕ → Bool
-faultySize es pool = not (eqb (length es % 4) 0) || ltb entriesMost (entryCount es) || ltb poolMost (length pool)
+abbrev pub faultySize : Table → Bool
+faultySize t =
+    not (wholeEntries (t .entries)) || ltb entriesMost (entryCount (t .entries)) || ltb poolMost (length (t .pool))
 
 -- the code point of entry i is not above that of the entry before
 unfoldable pub notAbove : List ℕ → ℕ → Bool
@@ -56,21 +39,26 @@ notAbove es (suc i) = leb (codeAt es (suc i)) (codeAt es i)
 abbrev pub faultyCode : List ℕ → ℕ → Bool
 faultyCode es i = not (scalar (codeAt es i)) || not (scalar (titleAt es i)) || notAbove es i
 
+-- "the sum of all earlier counts": of the entries below i
+unfoldable pub countsBelow : List ℕ → ℕ → ℕ
+countsBelow es zero = 0
+countsBelow es (suc i) = countsBelow es i + countAt es i
+
 -- "An entry whose titlecase is itself and whose count is 0 says nothing"
 abbrev pub saysNothing : List ℕ → ℕ → Bool
 saysNothing es i = eqb (titleAt es i) (codeAt es i) && eqb (countAt es i) 0
 
 -- 5: "an entry with count over 32, wrong start, parts past the pool's end, or saying nothing"
-abbrev pub faultyEntry : List ℕ → List ℕ → ℕ → Bool
-faultyEntry es pool i =
-    ltb partsMost (countAt es i)
-    || not (eqb (startAt es i) (countsBelow es i))
-    || ltb (length pool) (startAt es i + countAt es i)
-    || saysNothing es i
+abbrev pub faultyEntry : Table → ℕ → Bool
+faultyEntry t i =
+    ltb partsMost (countAt (t .entries) i)
+    || not (eqb (startAt (t .entries) i) (countsBelow (t .entries) i))
+    || ltb (length (t .pool)) (startAt (t .entries) i + countAt (t .entries) i)
+    || saysNothing (t .entries) i
 
 -- 5, of the whole: "or pool longer than all counts"
-abbrev pub poolLeft : List ℕ → List ℕ → Bool
-poolLeft es pool = ltb (countsBelow es (entryCount es)) (length pool)
+abbrev pub poolLeft : Table → Bool
+poolLeft t = ltb (countsBelow (t .entries) (entryCount (t .entries))) (length (t .pool))
 
 -- 6: "a pool number not scalar"
 abbrev pub faultyNumber : List ℕ → ℕ → Bool
@@ -82,22 +70,22 @@ refusedAt number none = none
 refusedAt number (some i) = some (refusal number 0 i)
 
 -- where 5 finds a fault: "lowest such entry; if no entry is faulty, the number of entries"
-abbrev pub entryFault : List ℕ → List ℕ → Option ℕ
-entryFault es pool =
-    orElse (lowest (faultyEntry es pool) (entryCount es)) (when (poolLeft es pool) (entryCount es))
+abbrev pub entryFault : Table → Option ℕ
+entryFault t =
+    orElse (lowest (faultyEntry t) (entryCount (t .entries))) (when (poolLeft t) (entryCount (t .entries)))
 
 -- 3 to 6 in the paper's order
-abbrev pub formChecks : List ℕ → List ℕ → List (Option Refusal)
-formChecks es pool =
-    check (faultySize es pool) 3 0 0
-    ∷ refusedAt 4 (lowest (faultyCode es) (entryCount es))
-    ∷ refusedAt 5 (entryFault es pool)
-    ∷ refusedAt 6 (lowest (faultyNumber pool) (length pool))
+abbrev pub formChecks : Table → List (Option Refusal)
+formChecks t =
+    check (faultySize t) 3 0 0
+    ∷ refusedAt 4 (lowest (faultyCode (t .entries)) (entryCount (t .entries)))
+    ∷ refusedAt 5 (entryFault t)
+    ∷ refusedAt 6 (lowest (faultyNumber (t .pool)) (length (t .pool)))
     ∷ []
 
 -- "A table has the form that demand 3 names if none of 3 to 6 below applies to it"
-unfoldable pub formRefusal : List ℕ → List ℕ → Option Refusal
-formRefusal es pool = first (formChecks es pool)
+unfoldable pub formRefusal : Table → Option Refusal
+formRefusal t = first (formChecks t)
 
 -- ---- the mapping that a table means
 
@@ -111,17 +99,17 @@ titleIn es c none = c
 titleIn es c (some i) = titleAt es i
 
 -- "Its decomposition is that many code points of the pool; count 0 means none"
-abbrev pub partsIn : List ℕ → List ℕ → Option ℕ → List ℕ
-partsIn es pool none = []
-partsIn es pool (some i) = take (countAt es i) (drop (startAt es i) pool)
+abbrev pub partsIn : Table → Option ℕ → List ℕ
+partsIn t none = []
+partsIn t (some i) = take (countAt (t .entries) i) (drop (startAt (t .entries) i) (t .pool))
 
 -- the titlecase of a code point, and its decomposition
 abbrev pub titleOf : List ℕ → ℕ → ℕ
 titleOf es c = titleIn es c (entryOf es c)
 
-abbrev pub partsOf : List ℕ → List ℕ → ℕ → List ℕ
-partsOf es pool c = partsIn es pool (entryOf es c)
+abbrev pub partsOf : Table → ℕ → List ℕ
+partsOf t c = partsIn t (entryOf (t .entries) c)
 
 -- the mapping of a table
-abbrev pub mappingOf : List ℕ → List ℕ → Mapping
-mappingOf es pool = record { title = titleOf es; parts = partsOf es pool }
+abbrev pub mappingOf : Table → Mapping
+mappingOf t = record { title = titleOf (t .entries); parts = partsOf t }

@@ -1,5 +1,6 @@
 pub mod Begins
 pub mod Checks
+pub mod Injective
 pub mod Lists
 pub mod Lowest
 pub mod Parts

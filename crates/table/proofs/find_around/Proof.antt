@@ -1,12 +1,16 @@
--- `table::find_around` meets its contract, whatever the guess: each look at its entry leaves the code point among fewer.
+-- `table::find_around` meets its contract, whatever the guess: each look at its entry leaves fewer candidates.
 -- Assumes nothing.
 use native.Mathlib.Omega.{arith}
-use mathlib.Core.Path.{sym}
+use mathlib.Core.Path.{sym, _∙_}
 use borrow.Author.Needs.{needs}
 use Rattle.table.proofs.Form.{entryOf-entry}
-use Rattle.table.proofs.Search.{among-up, among-down}
+use Rattle.table.proofs.Search.{candidates-up, candidates-down, candidates-later}
 use Rattle.table.proofs.find_around.Statement.{statement}
 use Rattle.table.proofs.find_around.Tie as tie
+
+-- where the guess's entry was read: the function's entry
+abbrev start : tie.After-code-at → tie.Start
+start c = c .before .before .before .before
 
 place-of-requires : tie.Need-place-of-requires
 place-of-requires c κs = search needs
@@ -17,21 +21,17 @@ find-among-requires c κs = search needs
 returns : tie.Need-returns
 returns c = search needs
 
-mul-there : tie.Need-mul-there
-mul-there c = search needs
-
-mul-there-2 : tie.Need-mul-there-2
-mul-there-2 c = search needs
-
-shared-slice-read-there : tie.Need-shared-slice-read-there
-shared-slice-read-there c = search needs
+code-at-requires : tie.Need-code-at-requires
+code-at-requires c κs = search needs
 
 -- the guess is right
 returns-2 : tie.Need-returns-2
 returns-2 c =
-    let called = c .before .before .before in
-    let s = called .before .before in
-    sym (rw (c .if2 .taken) at (entryOf-entry (s .args .entries .now) (s .pre .0) (called .place-of .result) (omega arith)))
+    let read = c .before in
+    let s = start read in
+    let guess = read .before .before .place-of .result in
+    let same = sym (read .code-at .ensures) ∙ c .if2 .taken in
+    sym (rw same at (entryOf-entry (s .args .entries .now) (s .pre .0) guess (omega arith)))
 
 sub-find-after : tie.Need-sub-find-after
 sub-find-after c = search needs
@@ -39,8 +39,8 @@ sub-find-after c = search needs
 -- its entry is below
 find-after-requires : tie.Need-find-after-requires
 find-after-requires c κs =
-    let s = c .before .before .before .before .before .before in
-    (s .pre .0, among-up (s .pre .1) (omega arith) (omega arith) (omega arith))
+    let s = start (c .before .before) in
+    (s .pre .0, (omega arith, candidates-up (s .pre .1 .1) (omega arith) (omega arith)))
 
 returns-3 : tie.Need-returns-3
 returns-3 c = search needs
@@ -48,9 +48,15 @@ returns-3 c = search needs
 -- its entry is above
 find-before-requires : tie.Need-find-before-requires
 find-before-requires c κs =
-    let called = c .before .before .before .before in
-    let s = called .before .before in
-    (s .pre .0, among-down (s .pre .0) (s .pre .1) (called .place-of .result) (omega arith) (omega arith) (omega arith))
+    let read = c .before .before in
+    let p = start read .pre in
+    let guess = read .before .before .place-of .result in (
+      p .0,
+      (
+        candidates-later (p .0) (p .1 .1) guess (omega arith) (p .1 .0) (omega arith),
+        candidates-down (p .0) (p .1 .1) guess (omega arith) (omega arith) (omega arith),
+      ),
+    )
 
 returns-4 : tie.Need-returns-4
 returns-4 c = search needs
@@ -62,9 +68,7 @@ find-around-spec =
     place-of-requires
     find-among-requires
     returns
-    mul-there
-    mul-there-2
-    shared-slice-read-there
+    code-at-requires
     returns-2
     sub-find-after
     find-after-requires

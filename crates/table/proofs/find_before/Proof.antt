@@ -1,50 +1,38 @@
 -- `table::find_before` meets its contract: the code point is past the last entry before `high`, or it is among those.
 -- Assumes nothing.
-use Prim.Native.Nat.{_-_, _*_}
+use Prim.Native.Nat.{_-_}
 use native.Mathlib.Omega.{arith}
-use mathlib.Core.Path.{_≡_, sym}
+use mathlib.Core.Path.{sym}
 use borrow.Author.Needs.{needs}
-use Rattle.table.proofs.Search.{among-up, among-past}
+use Rattle.table.proofs.Search.{candidates-up, candidates-past}
 use Rattle.table.proofs.find_before.Statement.{statement}
 use Rattle.table.proofs.find_before.Tie as tie
 
-mul-if1 : tie.Need-mul-if1
-mul-if1 c = search needs
+sub-code-at : tie.Need-sub-code-at
+sub-code-at c = search needs
 
-sub-if1 : tie.Need-sub-if1
-sub-if1 c = search needs
-
-mul-if1-2 : tie.Need-mul-if1-2
-mul-if1-2 c = search needs
-
-shared-slice-read-if1 : tie.Need-shared-slice-read-if1
-shared-slice-read-if1 c = search needs
+code-at-requires : tie.Need-code-at-requires
+code-at-requires c κs = search needs
 
 -- past the last
 returns : tie.Need-returns
 returns c =
     let s = c .before .before .before in
-    let high = s .args .high in
-    let same : high * 4 - 4 ≡ (high - 1) * 4 = omega arith in
-    sym (among-past (s .pre .0) (s .pre .1) (high - 1) (omega arith) (rw same at (c .if1 .taken)))
+    let below = rw (c .before .code-at .ensures) at (c .if1 .taken) in
+    sym (candidates-past (s .pre .0) (s .pre .1 .1) (s .args .high - 1) (omega arith) below)
 
 sub-low : tie.Need-sub-low
 sub-low c = search needs
 
-mul-if3 : tie.Need-mul-if3
-mul-if3 c = search needs
-
-mul-if3-2 : tie.Need-mul-if3-2
-mul-if3-2 c = search needs
-
-shared-slice-read-if3 : tie.Need-shared-slice-read-if3
-shared-slice-read-if3 c = search needs
+code-at-requires-2 : tie.Need-code-at-requires-2
+code-at-requires-2 c κs = search needs
 
 -- near
 find-among-requires : tie.Need-find-among-requires
 find-among-requires c κs =
     let s = c .before .before .before .before .before .before in
-    (s .pre .0, among-up (s .pre .1) (omega arith) (omega arith) (c .if3 .taken))
+    let below = rw (c .before .code-at2 .ensures) at (c .if3 .taken) in
+    (s .pre .0, (omega arith, candidates-up (s .pre .1 .1) (omega arith) below))
 
 returns-2 : tie.Need-returns-2
 returns-2 c = search needs
@@ -59,15 +47,11 @@ pub find-before-spec : {M : Type 1} → statement M
 find-before-spec =
     tie.close
     (tie.spec
-    mul-if1
-    sub-if1
-    mul-if1-2
-    shared-slice-read-if1
+    sub-code-at
+    code-at-requires
     returns
     sub-low
-    mul-if3
-    mul-if3-2
-    shared-slice-read-if3
+    code-at-requires-2
     find-among-requires
     returns-2
     find-among-requires-2

@@ -5,53 +5,36 @@ use native.Mathlib.Omega.{arith}
 use mathlib.Core.Path.{_≡_}
 use lib.ListN.{length}
 use borrow.Author.Needs.{needs}
-use Rattle.table.specs.Table.{startAt, countAt}
+use Rattle.table.specs.Layout.{startAt, countAt}
+use Rattle.table.specs.Table.{table}
 use Rattle.table.proofs.Form.{formed-fits}
 use Rattle.table.proofs.parts_at.Statement.{statement}
 use Rattle.table.proofs.parts_at.Tie as tie
 
--- at the function's entry: the parts of the entry lie in the pool
-fits : (s : tie.Start)
-    → startAt (s .args .entries .now) (s .args .i) + countAt (s .args .entries .now) (s .args .i) ≤ length (s .args .pool .now)
-fits s = formed-fits (s .args .entries .now) (s .args .pool .now) (s .pre .0) (s .args .i) (s .pre .1)
+-- where start and count were read: the parts of the entry lie in the pool
+fits : (c : tie.After-count-at) → let a = c .before .before .before .before .args in
+    startAt (a .entries .now) (a .i) + countAt (a .entries .now) (a .i) ≤ length (a .pool .now)
+fits c =
+    let s = c .before .before .before .before in
+    formed-fits (table (s .args .entries .now) (s .args .pool .now)) (s .pre .0) (s .args .i) (s .pre .1)
 
-mul-start : tie.Need-mul-start
-mul-start c = search needs
+start-at-requires : tie.Need-start-at-requires
+start-at-requires c κs = search needs
 
-add-start : tie.Need-add-start
-add-start c = search needs
-
-mul-start-2 : tie.Need-mul-start-2
-mul-start-2 c = search needs
-
-shared-slice-read-start : tie.Need-shared-slice-read-start
-shared-slice-read-start c = search needs
-
--- the start is in the pool
 cast-start : tie.Need-cast-start
-cast-start c = omega (arith, fits (c .before))
+cast-start c = search needs
 
-mul-end : tie.Need-mul-end
-mul-end c = search needs
+count-at-requires : tie.Need-count-at-requires
+count-at-requires c κs = search needs
+
+cast-end : tie.Need-cast-end
+cast-end c = search needs
 
 add-end : tie.Need-add-end
 add-end c = search needs
 
-mul-end-2 : tie.Need-mul-end-2
-mul-end-2 c = search needs
-
-shared-slice-read-end : tie.Need-shared-slice-read-end
-shared-slice-read-end c = search needs
-
--- the end is in the pool
-cast-end : tie.Need-cast-end
-cast-end c = omega (arith, fits (c .before .before))
-
-add-end-2 : tie.Need-add-end-2
-add-end-2 c = omega (arith, fits (c .before .before))
-
 mul-result : tie.Need-mul-result
-mul-result c = omega (arith, fits (c .before .before))
+mul-result c = search needs
 
 sub-result : tie.Need-sub-result
 sub-result c = search needs
@@ -61,31 +44,25 @@ part-result-start c = search needs
 
 -- the end is in the pool
 part-result-end : tie.Need-part-result-end
-part-result-end c = fits (c .before .before)
+part-result-end c = omega (arith, fits c)
 
 -- as many as the count says
 returns : tie.Need-returns
 returns c =
-    let s = c .before .before .before in
-    let es = s .args .entries .now in
-    let count : startAt es (s .args .i) + countAt es (s .args .i) - startAt es (s .args .i) ≡ countAt es (s .args .i) = omega arith in
-    rw count
+    let read = c .before in
+    let start = read .before .start-at .result in
+    let count : start + read .count-at .result - start ≡ read .count-at .result = omega arith in
+    rw (count, read .count-at .ensures, read .before .start-at .ensures)
 
 pub parts-at-spec : {M : Type 1} → statement M
 parts-at-spec =
     tie.close
     (tie.spec
-    mul-start
-    add-start
-    mul-start-2
-    shared-slice-read-start
+    start-at-requires
     cast-start
-    mul-end
-    add-end
-    mul-end-2
-    shared-slice-read-end
+    count-at-requires
     cast-end
-    add-end-2
+    add-end
     mul-result
     sub-result
     part-result-start

@@ -4,12 +4,19 @@ use native.Mathlib.Omega.{arith}
 use mathlib.Core.Path.{_≡_, sym, ap, _∙_}
 use mathlib.Core.Option.{some}
 use borrow.Author.Needs.{needs}
-use Rattle.table.specs.Table.{entryOf, partsIn}
+use Rattle.table.specs.Table.{Table, table, entryOf}
 use Rattle.table.specs.Promises.{placeFound, Ascending}
-use Rattle.table.proofs.Form.{formed-ascending, entryOf-some}
-use Rattle.table.proofs.Search.{reached-none, reached→among}
+use Rattle.table.proofs.Form.{formed-ascending, entryOf-some, partsOf-none}
+use Rattle.table.proofs.Search.{candidates-none}
 use Rattle.table.proofs.parts_of.Statement.{statement}
 use Rattle.table.proofs.parts_of.Tie as tie
+
+-- at the function's entry: the table, and that its code points ascend
+abbrev lent : tie.Start → Table
+lent s = table (s .args .entries .now) (s .args .pool .now)
+
+ascending : (s : tie.Start) → Ascending (s .args .entries .now)
+ascending s = formed-ascending (lent s) (s .pre)
 
 -- where an entry was found: the function's entry, and which it is
 abbrev start : tie.After-i → tie.Start
@@ -17,10 +24,6 @@ start c = c .before .before .before .before .before .before .before
 
 found : (c : tie.After-i) → entryOf (start c .args .entries .now) (start c .args .c .0) ≡ some (c .i .given .0 .0)
 found c = sym (c .before .before .find-around .ensures) ∙ ap placeFound (c .i .given .1)
-
--- the code points ascend
-ascending : (s : tie.Start) → Ascending (s .args .entries .now)
-ascending s = formed-ascending (s .args .entries .now) (s .args .pool .now) (s .pre)
 
 within-reach-requires : tie.Need-within-reach-requires
 within-reach-requires c κs = ascending (c .before .before)
@@ -33,13 +36,12 @@ returns : tie.Need-returns
 returns c =
     let called = c .before .before in
     let s = called .before .before .before in
-    let none-reached = reached-none (rw (c .before .if1 .taken) at (called .within-reach .ensures)) in
-    sym (ap (partsIn (s .args .entries .now) (s .args .pool .now)) none-reached)
+    sym (partsOf-none (lent s) (s .args .c .0) (candidates-none (rw (c .before .if1 .taken) at (called .within-reach .ensures))))
 
 find-around-requires : tie.Need-find-around-requires
 find-around-requires c κs =
     let called = c .before in
-    (ascending (called .before .before .before), reached→among (called .within-reach .ensures) (omega arith))
+    (ascending (called .before .before .before), (omega arith, called .within-reach .ensures))
 
 enum-known-i : tie.Need-enum-known-i
 enum-known-i c = search needs
@@ -66,7 +68,7 @@ returns-3 c =
     let told = c .before in
     let s = told .before .before .before .before .before .before .before in
     let nowhere = sym (told .before .before .find-around .ensures) ∙ ap placeFound (told .enum-told .given .1) in
-    sym (ap (partsIn (s .args .entries .now) (s .args .pool .now)) nowhere)
+    sym (partsOf-none (lent s) (s .args .c .0) nowhere)
 
 pub parts-of-spec : {M : Type 1} → statement M
 parts-of-spec =

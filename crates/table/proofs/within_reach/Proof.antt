@@ -6,19 +6,22 @@ use Rattle.table.proofs.Form.{ascending-from}
 use Rattle.table.proofs.within_reach.Statement.{statement}
 use Rattle.table.proofs.within_reach.Tie as tie
 
+entry-count-requires : tie.Need-entry-count-requires
+entry-count-requires c κs = search needs
+
 returns : tie.Need-returns
 returns c = search needs
 
-shared-slice-read-least : tie.Need-shared-slice-read-least
-shared-slice-read-least c = search needs
+code-at-requires : tie.Need-code-at-requires
+code-at-requires c κs = search needs
 
 -- the first entry is above
 returns-2 : tie.Need-returns-2
 returns-2 c =
-    let s = c .before .before .before in
+    let s = c .before .before .before .before .before in
     record {
       within = omega arith;
-      begin = λ l. absurd (omega arith);
+      first = λ l. absurd (omega arith);
       above = λ k l m. omega (arith, ascending-from (s .args .entries .now) (s .pre) k m);
     }
 
@@ -31,10 +34,10 @@ add-reach c = search needs
 -- fewer than all
 returns-3 : tie.Need-returns-3
 returns-3 c =
-    let s = c .before .before .before .before in
+    let s = c .before .before .before .before .before .before in
     record {
       within = omega arith;
-      begin = λ l. omega arith;
+      first = λ l. omega arith;
       above = λ k l m. omega (arith, ascending-from (s .args .entries .now) (s .pre) k m);
     }
 
@@ -42,4 +45,6 @@ returns-4 : tie.Need-returns-4
 returns-4 c = search needs
 
 pub within-reach-spec : {M : Type 1} → statement M
-within-reach-spec = tie.close (tie.spec returns shared-slice-read-least returns-2 cast-reach add-reach returns-3 returns-4)
+within-reach-spec =
+    tie.close
+    (tie.spec entry-count-requires returns code-at-requires returns-2 cast-reach add-reach returns-3 returns-4)

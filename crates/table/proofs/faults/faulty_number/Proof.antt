@@ -1,4 +1,4 @@
--- `table::faulty_number` meets its contract. The loop's invariant: `i` is at most the length of the pool, and each number below it
+-- `table::faults::faulty_number` meets its contract. The loop's invariant: `i` is at most the length of the pool, and each number below it
 -- is scalar. The measure is what is left of the length. Assumes nothing.
 use Prim.Native.Nat.{ℕ, _≤_, _<_, _-_}
 use native.Mathlib.Omega.{arith}
@@ -9,8 +9,8 @@ use borrow.Author.Count.{below-none, below-more}
 use borrow.Author.Needs.{needs}
 use Rattle.terms.proofs.Lowest.{lowest-is, lowest-nowhere}
 use Rattle.table.specs.Table.{faultyNumber}
-use Rattle.table.proofs.faulty_number.Statement.{statement}
-use Rattle.table.proofs.faulty_number.Tie as tie
+use Rattle.table.proofs.faults.faulty_number.Statement.{statement}
+use Rattle.table.proofs.faults.faulty_number.Tie as tie
 
 abbrev Inv-loop : tie.InvT-loop
 Inv-loop pool i₀ i = (i ≤ length pool) × ((k : ℕ) → k < i → faultyNumber pool k ≡ false)
