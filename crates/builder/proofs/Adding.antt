@@ -15,7 +15,7 @@ use Rattle.builder.specs.declared.Line.the-variants.{Taken, Refused}
 
 module _ (b : Built) {x : Option Refusal} {given : Option Properties} where
   -- a refusal leaves all as it was
-  pub addedBy-refused : {r : Refusal} → x ≡ some r → AddedBy x given b (Refused r (b .state)) (b .entries) (b .pool)
+  pub addedBy-refused : {r : Refusal} → x ≡ some r → AddedBy x given b (Refused r (b .state)) (b .table .entries) (b .table .pool)
   addedBy-refused e = rw e (record { answered = refl; left = refl })
 
   -- what is not refused is stored

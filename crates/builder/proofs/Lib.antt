@@ -1,3 +1,2 @@
-pub mod Adding
-pub mod Copies
 pub mod Refusals
+pub mod Adding

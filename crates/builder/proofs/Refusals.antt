@@ -12,7 +12,7 @@ use Rattle.terms.specs.Lists.{orElse}
 use Rattle.terms.specs.Refusals.{entriesMost, poolMost, first, refusal}
 use Rattle.terms.specs.declared.Refusal.{Refusal}
 use Rattle.terms.proofs.Checks.{or-left, or-right, orElse-assoc}
-use Rattle.table.specs.Table.{entryCount}
+use Rattle.table.specs.Layout.{entryCount}
 use Rattle.ucd.specs.Lines.{lineProperties, readingChecks, readingRefusal}
 use Rattle.builder.specs.Builder.{Built, overfull, impossible, givenChecks, lineRefusal}
 use Rattle.builder.specs.Promises.{Fits}
@@ -39,10 +39,10 @@ first-append (x ∷ xs) ys = ap (orElse x) (first-append xs ys) ∙ sym (orElse-
 
 module _ (b : Built) (line : List ℕ) where
   abbrev entries : ℕ
-  entries = entryCount (b .entries)
+  entries = entryCount (b .table .entries)
 
   abbrev pool : ℕ
-  pool = length (b .pool)
+  pool = length (b .table .pool)
 
   -- an impossible state
   pub lineRefusal-28 : impossible (b .state) entries pool ≡ true → lineRefusal b line ≡ some (refusal 28 0 0)

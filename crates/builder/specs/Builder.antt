@@ -1,7 +1,7 @@
 -- The builder: the refusals of a line in the paper's order, what a line leaves in the state and the two slices, and what it answers.
 -- Assumes nothing.
 use mathlib.Core.Path.{_≡_}
-use Prim.Native.Nat.{ℕ, _+_, _*_}
+use Prim.Native.Nat.{ℕ, _+_}
 use mathlib.Core.Bool.{Bool, cond, _&&_, _||_, not}
 use mathlib.Core.Option.{Option, none, some}
 use mathlib.Core.List.{List, [], _∷_, _++_}
@@ -11,7 +11,8 @@ use Rattle.terms.specs.CodePoints.{scalar}
 use Rattle.terms.specs.Lists.{all, putAt}
 use Rattle.terms.specs.Refusals.{entriesMost, poolMost, first, answer, Outcome, refused, gives}
 use Rattle.terms.specs.declared.Refusal.{Refusal}
-use Rattle.table.specs.Table.{entryCount}
+use Rattle.table.specs.Layout.{Entry, entry, entryCount, putEntry}
+use Rattle.table.specs.Table.{Table, table}
 use Rattle.ucd.specs.Lines.{Properties, lineProperties, saysNothing, lineCheck, readingChecks}
 use Rattle.builder.specs.declared.LineState.{LineState}
 use Rattle.builder.specs.declared.Line.{Line}
@@ -20,12 +21,11 @@ use Rattle.builder.specs.declared.Line.the-variants.{Taken, Refused}
 -- the state and the two slices
 pub record Built : Type 0 where
   pub state : LineState
-  pub entries : List ℕ
-  pub pool : List ℕ
+  pub table : Table
 
 -- the same by their values
 abbrev pub built : LineState → List ℕ → List ℕ → Built
-built st es pool = record { state = st; entries = es; pool = pool }
+built st entries pool = record { state = st; table = table entries pool }
 
 -- ---- refusals, over slices that hold so many whole entries and pool numbers
 
@@ -67,13 +67,13 @@ lineChecks st entries pool line =
 
 -- the refusal of a line, if there is one
 unfoldable pub lineRefusal : Built → List ℕ → Option Refusal
-lineRefusal b line = first (lineChecks (b .state) (entryCount (b .entries)) (length (b .pool)) line)
+lineRefusal b line = first (lineChecks (b .state) (entryCount (b .table .entries)) (length (b .table .pool)) line)
 
 -- ---- what a line leaves
 
 -- an entry for what a line gives, its parts at the next free place of the pool
-abbrev pub entryFor : LineState → Properties → List ℕ
-entryFor st p = p .code ∷ p .title ∷ st .«pool_used» ∷ length (p .parts) ∷ []
+abbrev pub entryFor : LineState → Properties → Entry
+entryFor st p = entry (p .code) (p .title) (st .«pool_used») (length (p .parts))
 
 -- "It appends at most one entry": the entry and its parts, each at the next free place
 abbrev pub appended : Built → Properties → Built
@@ -83,31 +83,39 @@ appended b p = record {
     «pool_used» = b .state .«pool_used» + length (p .parts);
     next = p .code + 1;
   };
-  entries = putAt (b .state .«entries_used» * 4) (entryFor (b .state) p) (b .entries);
-  pool = putAt (b .state .«pool_used») (p .parts) (b .pool);
+  table = table
+      (putEntry (b .state .«entries_used») (entryFor (b .state) p) (b .table .entries))
+      (putAt (b .state .«pool_used») (p .parts) (b .table .pool));
 }
 
 -- "Lines that say nothing .. only move the last code point"
 abbrev pub moved : Built → Properties → Built
 moved b p = record {
   state = record { «entries_used» = b .state .«entries_used»; «pool_used» = b .state .«pool_used»; next = p .code + 1 };
-  entries = b .entries;
-  pool = b .pool;
+  table = b .table;
 }
 
--- after a line that gives these properties
+-- what properties leave
 abbrev pub added : Built → Properties → Built
 added b p = cond (saysNothing p) (moved b p) (appended b p)
 
--- after a line, by its refusal and what it gives: "state and slices stay on refusal"
-abbrev pub addedBy : Option Refusal → Option Properties → Built → Built
-addedBy none none b = b
-addedBy none (some p) b = added b p
-addedBy (some r) given b = b
+-- what a line gives, unless it is refused
+abbrev pub unlessRefused : Option Refusal → Option Properties → Option Properties
+unlessRefused none given = given
+unlessRefused (some r) given = none
+
+-- what an accepted line gives; nothing of a line that is refused
+abbrev pub accepted : Built → List ℕ → Option Properties
+accepted b line = unlessRefused (lineRefusal b line) (lineProperties line)
+
+-- what that leaves: "state and slices stay on refusal"
+abbrev pub addGiven : Built → Option Properties → Built
+addGiven b none = b
+addGiven b (some p) = added b p
 
 -- the state and slices after a line
 unfoldable pub addLine : Built → List ℕ → Built
-addLine b line = addedBy (lineRefusal b line) (lineProperties line) b
+addLine b line = addGiven b (accepted b line)
 
 -- after a sequence of lines, one after another
 unfoldable pub addLines : Built → List (List ℕ) → Built
@@ -139,6 +147,6 @@ abbrev pub lineAnswer : Built → List ℕ → Outcome
 lineAnswer b line = answer (lineRefusal b line) (stateNumbers (addLine b line .state))
 
 -- a line was added: the answer, and the state and slices that are left
-pub record Added (b : Built) (line : List ℕ) (r : Line) (es pool : List ℕ) : Type 0 where
+pub record Added (b : Built) (line : List ℕ) (r : Line) (entries pool : List ℕ) : Type 0 where
   pub answered : lineOutcome r ≡ lineAnswer b line
-  pub left : built (stateAfter r) es pool ≡ addLine b line
+  pub left : built (stateAfter r) entries pool ≡ addLine b line

@@ -7,9 +7,9 @@ use mathlib.Core.List.{List}
 use lib.ListN.{length}
 use Rattle.terms.specs.Refusals.{entriesMost, poolMost, first, answer}
 use Rattle.terms.specs.declared.Refusal.{Refusal}
-use Rattle.table.specs.Table.{entryCount}
+use Rattle.table.specs.Layout.{entryCount}
 use Rattle.ucd.specs.Lines.{Properties}
-use Rattle.builder.specs.Builder.{Built, built, propertiesChecks, addedBy, stateNumbers, lineOutcome, stateAfter}
+use Rattle.builder.specs.Builder.{Built, built, propertiesChecks, unlessRefused, addGiven, stateNumbers, lineOutcome, stateAfter}
 use Rattle.builder.specs.declared.Line.{Line}
 
 -- slices of these sizes have room for so many entries and pool numbers, and no limit is passed
@@ -19,15 +19,15 @@ pub record Fits (used filled entries pool : ℕ) : Type 0 where
   pub pool-held : filled ≤ pool
   pub pool-limit : filled ≤ poolMost
 
--- a line that gives these properties, or none, was added, unless it is refused by x: the answer, and the state and slices that are left
-pub record AddedBy (x : Option Refusal) (given : Option Properties) (b : Built) (r : Line) (es pool : List ℕ) : Type 0 where
-  pub answered : lineOutcome r ≡ answer x (stateNumbers (addedBy x given b .state))
-  pub left : built (stateAfter r) es pool ≡ addedBy x given b
+-- a line that gives these properties was added, unless x refuses it: the answer, and the state and slices that are left
+pub record AddedBy (x : Option Refusal) (given : Option Properties) (b : Built) (r : Line) (entries pool : List ℕ) : Type 0 where
+  pub answered : lineOutcome r ≡ answer x (stateNumbers (addGiven b (unlessRefused x given) .state))
+  pub left : built (stateAfter r) entries pool ≡ addGiven b (unlessRefused x given)
 
 -- the refusal of what a line gives, if there is one: 25 to 27
-abbrev pub propertiesRefusal : Built → Properties → Option Refusal
-propertiesRefusal b p = first (propertiesChecks (b .state) (entryCount (b .entries)) (length (b .pool)) p)
+unfoldable pub propertiesRefusal : Built → Properties → Option Refusal
+propertiesRefusal b p = first (propertiesChecks (b .state) (entryCount (b .table .entries)) (length (b .table .pool)) p)
 
--- properties were added, unless one of them applies
+-- properties were added, unless one of these refuses them
 abbrev pub Adds : Built → Properties → Line → List ℕ → List ℕ → Type 0
-Adds b p r es pool = AddedBy (propertiesRefusal b p) (some p) b r es pool
+Adds b p r entries pool = AddedBy (propertiesRefusal b p) (some p) b r entries pool

@@ -1,12 +1,14 @@
-// The checks of a line that look at the state and the sizes of the slices, which hold `entries` whole entries and `pool` numbers:
-// 28, and of what the line gives 25 and 27.
+// The checks of a line that are more than a comparison: 28, which looks at the state and the sizes of the slices, and of what the
+// line gives 25 and 27.
 use crate::LineState;
+use table::layout;
 ghost use mathlib.Core.Path.{_≡_};
 ghost use Prim.Native.Nat.{_≤_};
 ghost use lib.ListN.{length};
 ghost use Rattle.terms.specs.CodePoints.{scalar};
 ghost use Rattle.terms.specs.Lists.{all};
 ghost use Rattle.terms.specs.Refusals.{partsMost};
+ghost use Rattle.table.specs.Layout.{entryCount};
 ghost use Rattle.ucd.specs.Lines.{properties, saysNothing};
 ghost use Rattle.builder.specs.Builder.{overfull, impossible, surrogate, crowded};
 ghost use Rattle.builder.specs.Promises.{Fits};
@@ -14,9 +16,9 @@ ghost use Rattle.builder.specs.Promises.{Fits};
 // The most that the state's third number can be: one more than the highest code point.
 const NEXT_MOST: usize = 0x110000;
 
-// Whether no line can have left this state in slices of these sizes.
-pub fn is_impossible(state: LineState, entries: usize, pool: usize) -> bool
-    ensures { λ r. ⌜ r ≡ impossible state entries pool ⌝ }
+// Whether no line can have left this state in these slices.
+pub fn is_impossible(state: LineState, entries: &[u32], pool: &[u32]) -> bool
+    ensures { λ r. ⌜ r ≡ impossible state (entryCount (now (entries .entry))) (length (now (pool .entry))) ⌝ }
 {
     if is_overfull(state.entries_used, state.pool_used, entries, pool) {
         return true;
@@ -30,30 +32,36 @@ pub fn is_crowded(
     code: u32,
     title: u32,
     parts: &[u32],
-    entries: usize,
-    pool: usize,
+    entries: &[u32],
+    pool: &[u32],
 ) -> bool
-    requires { ⌜ Fits (state .«entries_used») (state .«pool_used») entries pool ⌝ }
+    requires { ⌜ Fits (state .«entries_used») (state .«pool_used») (entryCount (now entries)) (length (now pool)) ⌝ }
     requires { ⌜ length (now parts) ≤ partsMost ⌝ }
-    ensures { λ r. ⌜ r ≡ crowded state entries pool (properties code title (now (parts .entry))) ⌝ }
+    ensures { λ r. ⌜ r ≡ crowded state (entryCount (now (entries .entry))) (length (now (pool .entry)))
+        (properties code title (now (parts .entry))) ⌝ }
 {
     if says_nothing(code, title, parts) {
         return false;
     }
-    is_overfull(state.entries_used + 1, state.pool_used + parts.len(), entries, pool)
+    is_overfull(
+        state.entries_used + 1,
+        state.pool_used + parts.len(),
+        entries,
+        pool,
+    )
 }
 
-// Whether so many entries and pool numbers are more than slices of these sizes hold, or than may be.
-fn is_overfull(used: usize, filled: usize, entries: usize, pool: usize) -> bool
-    ensures { λ r. ⌜ r ≡ overfull used filled entries pool ⌝ }
+// Whether so many entries and pool numbers are more than the slices hold, or than may be.
+fn is_overfull(used: usize, filled: usize, entries: &[u32], pool: &[u32]) -> bool
+    ensures { λ r. ⌜ r ≡ overfull used filled (entryCount (now (entries .entry))) (length (now (pool .entry))) ⌝ }
 {
-    if entries < used {
+    if layout::entry_count(entries) < used {
         return true;
     }
     if terms::ENTRIES_MOST < used {
         return true;
     }
-    if pool < filled {
+    if pool.len() < filled {
         return true;
     }
     terms::POOL_MOST < filled

@@ -12,7 +12,7 @@ ghost use mathlib.Core.Path.{_≡_};
 ghost use Prim.Native.Nat.{_≤_};
 ghost use lib.ListN.{length};
 ghost use Rattle.terms.specs.Refusals.{partsMost, refusal};
-ghost use Rattle.table.specs.Table.{entryCount};
+ghost use Rattle.table.specs.Layout.{entryCount};
 ghost use Rattle.ucd.specs.Lines.{properties};
 ghost use Rattle.builder.specs.Builder.{built, Added};
 ghost use Rattle.builder.specs.Promises.{Fits, Adds};
@@ -35,7 +35,7 @@ pub fn add_line(state: LineState, line: &[u8], entries: &mut [u32], pool: &mut [
     ensures { λ r. ⌜ Added (built state (now (entries .entry)) (now (pool .entry))) (now (line .entry))
         r (now (entries .exit)) (now (pool .exit)) ⌝ }
 {
-    if checks::is_impossible(state, entries.len() / 4, pool.len()) {
+    if checks::is_impossible(state, entries, pool) {
         return refused(terms::REFUSED_STATE, state);
     }
     let mut parts = [0u32; terms::PARTS_MOST];
@@ -69,7 +69,7 @@ fn add_given(
     if c < state.next {
         return refused(terms::REFUSED_ORDER, state);
     }
-    if checks::is_crowded(state, code, title, parts, entries.len() / 4, pool.len()) {
+    if checks::is_crowded(state, code, title, parts, entries, pool) {
         return refused(terms::REFUSED_NO_ROOM, state);
     }
     Line::Taken(storing::store(state, code, title, parts, entries, pool))

@@ -1,13 +1,14 @@
 // What a line that is not refused leaves: an entry and its parts, and the state.
 use crate::LineState;
 use crate::checks;
+use table::layout;
 ghost use mathlib.Core.Path.{_≡_};
 ghost use mathlib.Core.Bool.{false};
 ghost use Prim.Native.Nat.{_+_, _≤_};
 ghost use lib.ListN.{length};
 ghost use Rattle.terms.specs.Lists.{putAt};
 ghost use Rattle.terms.specs.Refusals.{partsMost};
-ghost use Rattle.table.specs.Table.{entryCount};
+ghost use Rattle.table.specs.Layout.{entryCount};
 ghost use Rattle.ucd.specs.Lines.{properties};
 ghost use Rattle.builder.specs.Builder.{built, crowded, added};
 
@@ -35,8 +36,7 @@ pub fn store(
             next,
         };
     }
-    let entry = [code, title, start as u32, parts.len() as u32];
-    put_at(&entry, entries, used * 4);
+    layout::put_entry(entries, used, code, title, start as u32, parts.len() as u32);
     put_at(parts, pool, start);
     LineState {
         entries_used: used + 1,

@@ -16,11 +16,7 @@ ghost use Rattle.ucd.specs.Promises.{Reads};
 // What a line gives, or the number of its refusal.
 pub enum Reading {
     // The code point, its titlecase, and how many parts it has; the parts stand at the front of a slice.
-    Read {
-        code: u32,
-        title: u32,
-        count: usize,
-    },
+    Read { code: u32, title: u32, count: usize },
     Refused(u32),
 }
 

@@ -10,9 +10,10 @@ use lib.ListN.{length, take}
 use lib.Seq.{length-take-le}
 use Rattle.terms.specs.Refusals.{partsMost}
 use Rattle.terms.proofs.Checks.{or-left}
-use Rattle.table.specs.Table.{entryCount}
+use Rattle.table.specs.Layout.{entryCount}
 use Rattle.ucd.specs.Promises.{Gives, Reads}
 use Rattle.builder.specs.Builder.{Built, built, impossible}
+use Rattle.builder.specs.Promises.{propertiesRefusal}
 use Rattle.builder.proofs.Refusals.{overfull-fits, lineRefusal-28, lineRefusal-possible}
 use Rattle.builder.proofs.Adding.{addedBy-refused, addedBy-line}
 use Rattle.builder.proofs.add_line.Statement.{statement}
@@ -22,17 +23,23 @@ use Rattle.builder.proofs.add_line.Tie as tie
 abbrev before : tie.Start → Built
 before s = built (s .args .state) (s .args .entries .now) (s .args .pool .now)
 
+abbrev entered : tie.After-is-impossible → tie.Start
+entered c = c .before .before .before .before .before .before
+
 -- where the line was read: the state is possible
+abbrev at-state : tie.After-read-line → tie.After-is-impossible
+at-state r = r .before .before .before
+
 abbrev start-of : tie.After-read-line → tie.Start
-start-of r = r .before .before .before .before .before .before .before
+start-of r = entered (at-state r)
 
 abbrev out-of : tie.After-read-line → List ℕ
 out-of r = r .read-line .last .1 .0
 
 possible : (r : tie.After-read-line)
     → let b = before (start-of r) in
-    impossible (b .state) (entryCount (b .entries)) (length (b .pool)) ≡ false
-possible r = sym (r .before .before .before .is-impossible .ensures) ∙ r .before .before .if1 .left
+    impossible (b .state) (entryCount (b .table .entries)) (length (b .table .pool)) ≡ false
+possible r = sym (at-state r .is-impossible .ensures) ∙ r .before .before .if1 .left
 
 -- where it gives properties
 abbrev read : tie.After-known-told → tie.After-read-line
@@ -59,11 +66,17 @@ is-impossible-requires c κs = search needs
 refused-requires : tie.Need-refused-requires
 refused-requires c κs = search needs
 
+same-length : tie.Need-same-length
+same-length c = search needs
+
+same-length-2 : tie.Need-same-length-2
+same-length-2 c = search needs
+
 -- an impossible state
 returns : tie.Need-returns
 returns c =
     let called = c .before .before in
-    let b = before (called .before .before .before .before) in
+    let b = before (entered called) in
     rw (c .refused .ensures)
     (addedBy-line (lineRefusal-28 b _ (sym (called .is-impossible .ensures) ∙ c .before .if1 .taken)) refl (addedBy-refused b refl))
 
@@ -85,7 +98,6 @@ slice-aggregate-add-given c = sym (counted (c .before))
 add-given-requires : tie.Need-add-given-requires
 add-given-requires c κs =
     let g = c .before .before .before in
-    let b = before (start-of (read g)) in
     (overfull-fits _ _ _ _ (or-left _ _ (possible (read g))), omega (arith, counted g, given g .within))
 
 enum-known-reading-2 : tie.Need-enum-known-reading-2
@@ -94,14 +106,15 @@ enum-known-reading-2 c = search needs
 refused-requires-2 : tie.Need-refused-requires-2
 refused-requires-2 c κs = search needs
 
-same-length : tie.Need-same-length
-same-length c = search needs
+same-length-3 : tie.Need-same-length-3
+same-length-3 c = search needs
 
-same-length-2 : tie.Need-same-length-2
-same-length-2 c = search needs
+same-length-4 : tie.Need-same-length-4
+same-length-4 c = search needs
 
 -- what the line gives
 returns-2 : tie.Need-returns-2
+unfolding propertiesRefusal
 returns-2 c =
     let called = c .before .before .before .before in
     let g = called .before .before .before .before in
@@ -109,6 +122,12 @@ returns-2 c =
     (lineRefusal-possible (before (start-of (read g))) _ (possible (read g)) ∙ rw (given g .unrefused, given g .given))
     (given g .given)
     (called .add-given .ensures)
+
+same-length-5 : tie.Need-same-length-5
+same-length-5 c = search needs
+
+same-length-6 : tie.Need-same-length-6
+same-length-6 c = search needs
 
 -- the reading is refused
 returns-3 : tie.Need-returns-3
@@ -127,6 +146,8 @@ add-line-spec =
     (tie.spec
     is-impossible-requires
     refused-requires
+    same-length
+    same-length-2
     returns
     slice-aggregate-read-line
     read-line-requires
@@ -136,7 +157,9 @@ add-line-spec =
     add-given-requires
     enum-known-reading-2
     refused-requires-2
-    same-length
-    same-length-2
+    same-length-3
+    same-length-4
     returns-2
+    same-length-5
+    same-length-6
     returns-3)

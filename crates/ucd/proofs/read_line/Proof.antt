@@ -202,7 +202,7 @@ returns-6 c =
     let d = at-listed r in
     let at = at-fields (at-code (at-coded (at-parts d))) in
     let code : codePoint (field 0 (line-listed d)) ≡ some (code-of d) = coded (at-coded (at-parts d)) in
-    let cased : titlecase (code-of d) (field 14 (line-listed d)) ≡ some (c .before .cased .given .0 .0) = 
+    let cased : titlecase (code-of d) (field 14 (line-listed d)) ≡ some (c .before .cased .given .0 .0) =
     sym (title r) ∙ ap numberRead (c .before .cased .given .1) in
     record {
       unrefused = rw (short (at-length at), whole at, code, listed d, optional-titlecase (code-of d) (field 14 (line-listed d)), cased);

@@ -6,8 +6,8 @@ use Prim.Native.Nat.{_+_}
 use native.Mathlib.Omega.{arith}
 use borrow.Author.Needs.{needs}
 use lib.ListN.{length}
-use Rattle.table.specs.Table.{entryCount}
-use Rattle.ucd.specs.Lines.{Properties, properties, saysNothing}
+use Rattle.table.specs.Layout.{entryCount}
+use Rattle.ucd.specs.Lines.{properties, saysNothing}
 use Rattle.builder.specs.Builder.{built}
 use Rattle.builder.specs.Promises.{Fits}
 use Rattle.builder.proofs.Refusals.{overfull-fits}
@@ -18,16 +18,19 @@ use Rattle.builder.proofs.storing.store.Tie as tie
 abbrev start-of : tie.Else1 → tie.Start
 start-of c = c .before .before .before .before .before
 
-abbrev given : tie.Start → Properties
-given s = properties (s .args .code) (s .args .title) (s .args .parts .now)
-
-maps : (c : tie.Else1) → saysNothing (given (start-of c)) ≡ false
+maps : (c : tie.Else1)
+    → let a = start-of c .args in
+    saysNothing (properties (a .code) (a .title) (a .parts .now)) ≡ false
 maps c = sym (c .before .says-nothing .ensures) ∙ c .if1 .left
 
 fits : (c : tie.Else1)
     → let a = start-of c .args in
     Fits (a .state .«entries_used» + 1) (a .state .«pool_used» + length (a .parts .now)) (entryCount (a .entries .now)) (length (a .pool .now))
 fits c = overfull-fits _ _ _ _ (rw (maps c) at (start-of c .pre .1))
+
+-- where both are stored
+abbrev stored : tie.After-slice-known4 → tie.Else1
+stored c = c .before .before .before .before .before .before .before .before
 
 add-next : tie.Need-add-next
 add-next c = search needs
@@ -39,29 +42,23 @@ says-nothing-requires c κs = search needs
 returns : tie.Need-returns
 returns c = rw (← (c .before .says-nothing .ensures), c .if1 .taken)
 
-cast-t13 : tie.Need-cast-t13
-cast-t13 c = omega (arith, fits c)
+cast-put-entry : tie.Need-cast-put-entry
+cast-put-entry c = omega (arith, fits (c .before))
 
-cast-t14 : tie.Need-cast-t14
-cast-t14 c = search needs
+cast-put-entry-2 : tie.Need-cast-put-entry-2
+cast-put-entry-2 c = search needs
 
-slice-aggregate-put-at : tie.Need-slice-aggregate-put-at
-slice-aggregate-put-at c = search needs
-
-mul-put-at : tie.Need-mul-put-at
-mul-put-at c = omega (arith, fits (c .before .before))
+put-entry-requires : tie.Need-put-entry-requires
+put-entry-requires c κs = omega (arith, fits (c .before))
 
 put-at-requires : tie.Need-put-at-requires
-put-at-requires c κs = omega (arith, fits (c .before .before))
+put-at-requires c κs = omega (arith, fits (c .before .before .before .before .before))
 
-put-at-requires-2 : tie.Need-put-at-requires-2
-put-at-requires-2 c κs = omega (arith, fits (c .before .before .before .before .before .before))
+add-t10 : tie.Need-add-t10
+add-t10 c = omega (arith, fits (stored c))
 
-add-t11 : tie.Need-add-t11
-add-t11 c = omega (arith, fits (c .before .before .before .before .before .before .before .before .before))
-
-add-t23 : tie.Need-add-t23
-add-t23 c = omega (arith, fits (c .before .before .before .before .before .before .before .before .before))
+add-t20 : tie.Need-add-t20
+add-t20 c = omega (arith, fits (stored c))
 
 same-length : tie.Need-same-length
 same-length c = search needs
@@ -74,7 +71,7 @@ returns-2 : tie.Need-returns-2
 returns-2 c =
     let second = c .before .before in
     let first = second .before .before .before .before in
-    rw (maps (first .before .before .before)) (ap₂ (built _) (first .put-at .ensures) (second .put-at2 .ensures))
+    rw (maps (stored c)) (ap₂ (built _) (first .put-entry .ensures) (second .put-at .ensures))
 
 pub store-spec : {M : Type 1} → statement M
 store-spec =
@@ -83,14 +80,12 @@ store-spec =
     add-next
     says-nothing-requires
     returns
-    cast-t13
-    cast-t14
-    slice-aggregate-put-at
-    mul-put-at
+    cast-put-entry
+    cast-put-entry-2
+    put-entry-requires
     put-at-requires
-    put-at-requires-2
-    add-t11
-    add-t23
+    add-t10
+    add-t20
     same-length
     same-length-2
     returns-2)
