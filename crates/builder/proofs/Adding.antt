@@ -7,7 +7,7 @@ use Prim.Native.Nat.{ℕ}
 use Rattle.terms.specs.Refusals.{gives}
 use Rattle.terms.specs.declared.Refusal.{Refusal}
 use Rattle.ucd.specs.Lines.{Properties, lineProperties}
-use Rattle.builder.specs.Builder.{Built, built, lineRefusal, added, addLine, stateNumbers, Added}
+use Rattle.builder.specs.Builder.{Built, built, lineRefusal, added, unlessRefused, accepted, addGiven, addLine, stateNumbers, Added}
 use Rattle.builder.specs.Promises.{AddedBy}
 use Rattle.builder.specs.declared.LineState.{LineState}
 use Rattle.builder.specs.declared.Line.{Line}
@@ -28,3 +28,29 @@ pub addedBy-line : {b : Built} {line : List ℕ} {x : Option Refusal} {given : O
     → lineRefusal b line ≡ x → lineProperties line ≡ given → AddedBy x given b r es pool → Added b line r es pool
 unfolding addLine
 addedBy-line e f a = record { answered = rw (e, f) (a .answered); left = rw (e, f) (a .left) }
+
+-- ---- the state and slices after a line
+
+unlessRefused-some : (x : Option Refusal) (given : Option Properties) (p : Properties) → unlessRefused x given ≡ some p
+    → (x ≡ none) × (given ≡ some p)
+unlessRefused-some none given p e = (refl, e)
+unlessRefused-some (some r) given p e = (cc, cc)
+
+-- an accepted line is not refused, and gives what it gives
+pub accepted-some : (b : Built) (line : List ℕ) (p : Properties) → accepted b line ≡ some p
+    → (lineRefusal b line ≡ none) × (lineProperties line ≡ some p)
+accepted-some b line p e = unlessRefused-some (lineRefusal b line) (lineProperties line) p e
+
+-- it is stored
+pub addLine-accepted : (b : Built) (line : List ℕ) (p : Properties) → accepted b line ≡ some p → addLine b line ≡ added b p
+unfolding addLine
+addLine-accepted b line p e = ap (addGiven b) e
+
+-- a line of which nothing is accepted leaves all as it was
+pub addLine-none : (b : Built) (line : List ℕ) → accepted b line ≡ none → addLine b line ≡ b
+unfolding addLine
+addLine-none b line e = ap (addGiven b) e
+
+-- so a refused line
+pub addLine-refused : (b : Built) (line : List ℕ) (r : Refusal) → lineRefusal b line ≡ some r → addLine b line ≡ b
+addLine-refused b line r e = addLine-none b line (rw e)

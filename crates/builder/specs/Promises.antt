@@ -1,7 +1,7 @@
 -- What the contracts of the inner functions cite: room for so many entries and pool numbers, and what becomes of what a line gives.
 -- Assumes nothing.
 use mathlib.Core.Path.{_≡_}
-use Prim.Native.Nat.{ℕ, _≤_}
+use Prim.Native.Nat.{ℕ, _+_, _≤_}
 use mathlib.Core.Option.{Option, some}
 use mathlib.Core.List.{List}
 use lib.ListN.{length}
@@ -18,6 +18,16 @@ pub record Fits (used filled entries pool : ℕ) : Type 0 where
   pub entries-limit : used ≤ entriesMost
   pub pool-held : filled ≤ pool
   pub pool-limit : filled ≤ poolMost
+
+-- what is used has room
+abbrev pub UsedFits : Built → Type 0
+UsedFits b =
+    Fits (b .state .«entries_used») (b .state .«pool_used») (entryCount (b .table .entries)) (length (b .table .pool))
+
+-- and so have one entry more and its parts
+abbrev pub NextFits : Built → Properties → Type 0
+NextFits b p =
+    Fits (b .state .«entries_used» + 1) (b .state .«pool_used» + length (p .parts)) (entryCount (b .table .entries)) (length (b .table .pool))
 
 -- a line that gives these properties was added, unless x refuses it: the answer, and the state and slices that are left
 pub record AddedBy (x : Option Refusal) (given : Option Properties) (b : Built) (r : Line) (entries pool : List ℕ) : Type 0 where

@@ -10,8 +10,8 @@ ghost use Rattle.terms.specs.Lists.{all};
 ghost use Rattle.terms.specs.Refusals.{partsMost};
 ghost use Rattle.table.specs.Layout.{entryCount};
 ghost use Rattle.ucd.specs.Lines.{properties, saysNothing};
-ghost use Rattle.builder.specs.Builder.{overfull, impossible, surrogate, crowded};
-ghost use Rattle.builder.specs.Promises.{Fits};
+ghost use Rattle.builder.specs.Builder.{built, overfull, impossible, surrogate, crowded};
+ghost use Rattle.builder.specs.Promises.{UsedFits};
 
 // The most that the state's third number can be: one more than the highest code point.
 const NEXT_MOST: usize = 0x110000;
@@ -35,7 +35,7 @@ pub fn is_crowded(
     entries: &[u32],
     pool: &[u32],
 ) -> bool
-    requires { ⌜ Fits (state .«entries_used») (state .«pool_used») (entryCount (now entries)) (length (now pool)) ⌝ }
+    requires { ⌜ UsedFits (built state (now entries) (now pool)) ⌝ }
     requires { ⌜ length (now parts) ≤ partsMost ⌝ }
     ensures { λ r. ⌜ r ≡ crowded state (entryCount (now (entries .entry))) (length (now (pool .entry)))
         (properties code title (now (parts .entry))) ⌝ }

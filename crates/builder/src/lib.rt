@@ -12,10 +12,9 @@ ghost use mathlib.Core.Path.{_≡_};
 ghost use Prim.Native.Nat.{_≤_};
 ghost use lib.ListN.{length};
 ghost use Rattle.terms.specs.Refusals.{partsMost, refusal};
-ghost use Rattle.table.specs.Layout.{entryCount};
 ghost use Rattle.ucd.specs.Lines.{properties};
 ghost use Rattle.builder.specs.Builder.{built, Added};
-ghost use Rattle.builder.specs.Promises.{Fits, Adds};
+ghost use Rattle.builder.specs.Promises.{UsedFits, Adds};
 
 // The builder's state: entries used, pool numbers used, and one more than the last code point, or 0. All zeros is fresh.
 pub struct LineState {
@@ -57,7 +56,7 @@ fn add_given(
     entries: &mut [u32],
     pool: &mut [u32],
 ) -> Line
-    requires { ⌜ Fits (state .«entries_used») (state .«pool_used») (entryCount (now entries)) (length (now pool)) ⌝ }
+    requires { ⌜ UsedFits (built state (now entries) (now pool)) ⌝ }
     requires { ⌜ length (now parts) ≤ partsMost ⌝ }
     ensures { λ r. ⌜ Adds (built state (now (entries .entry)) (now (pool .entry))) (properties code title (now (parts .entry)))
         r (now (entries .exit)) (now (pool .exit)) ⌝ }

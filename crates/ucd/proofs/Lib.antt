@@ -1,4 +1,6 @@
+pub mod Rows
 pub mod Walks
 pub mod Cutting
 pub mod Digits
 pub mod Listing
+pub mod Lines

@@ -2,30 +2,30 @@
 -- Assumes nothing.
 use mathlib.Core.Path.{_≡_, sym, _∙_, ap₂}
 use mathlib.Core.Bool.{false}
-use Prim.Native.Nat.{_+_}
 use native.Mathlib.Omega.{arith}
 use borrow.Author.Needs.{needs}
-use lib.ListN.{length}
-use Rattle.table.specs.Layout.{entryCount}
-use Rattle.ucd.specs.Lines.{properties, saysNothing}
-use Rattle.builder.specs.Builder.{built}
-use Rattle.builder.specs.Promises.{Fits}
+use Rattle.ucd.specs.Lines.{Properties, properties, saysNothing}
+use Rattle.builder.specs.Builder.{Built, built}
+use Rattle.builder.specs.Promises.{NextFits}
 use Rattle.builder.proofs.Refusals.{overfull-fits}
 use Rattle.builder.proofs.storing.store.Statement.{statement}
 use Rattle.builder.proofs.storing.store.Tie as tie
+
+-- at the entry: the state and slices, and what the line gives
+abbrev before : tie.Start → Built
+before s = built (s .args .state) (s .args .entries .now) (s .args .pool .now)
+
+abbrev given : tie.Start → Properties
+given s = properties (s .args .code) (s .args .title) (s .args .parts .now)
 
 -- where the line has a mapping: the entry and its parts fit
 abbrev start-of : tie.Else1 → tie.Start
 start-of c = c .before .before .before .before .before
 
-maps : (c : tie.Else1)
-    → let a = start-of c .args in
-    saysNothing (properties (a .code) (a .title) (a .parts .now)) ≡ false
+maps : (c : tie.Else1) → saysNothing (given (start-of c)) ≡ false
 maps c = sym (c .before .says-nothing .ensures) ∙ c .if1 .left
 
-fits : (c : tie.Else1)
-    → let a = start-of c .args in
-    Fits (a .state .«entries_used» + 1) (a .state .«pool_used» + length (a .parts .now)) (entryCount (a .entries .now)) (length (a .pool .now))
+fits : (c : tie.Else1) → NextFits (before (start-of c)) (given (start-of c))
 fits c = overfull-fits _ _ _ _ (rw (maps c) at (start-of c .pre .1))
 
 -- where both are stored
