@@ -7,7 +7,7 @@ use Prim.Native.Nat.{ℕ}
 use Rattle.terms.specs.Refusals.{gives}
 use Rattle.terms.specs.declared.Refusal.{Refusal}
 use Rattle.ucd.specs.Lines.{Properties, lineProperties}
-use Rattle.builder.specs.Builder.{Built, built, lineRefusal, added, unlessRefused, accepted, addGiven, addLine, stateNumbers, Added}
+use Rattle.builder.specs.Builder.{Built, built, lineRefusal, added, accepted, addGiven, addLine, stateNumbers, Added}
 use Rattle.builder.specs.Promises.{AddedBy}
 use Rattle.builder.specs.declared.LineState.{LineState}
 use Rattle.builder.specs.declared.Line.{Line}
@@ -31,17 +31,7 @@ addedBy-line e f a = record { answered = rw (e, f) (a .answered); left = rw (e, 
 
 -- ---- the state and slices after a line
 
-unlessRefused-some : (x : Option Refusal) (given : Option Properties) (p : Properties) → unlessRefused x given ≡ some p
-    → (x ≡ none) × (given ≡ some p)
-unlessRefused-some none given p e = (refl, e)
-unlessRefused-some (some r) given p e = (cc, cc)
-
--- an accepted line is not refused, and gives what it gives
-pub accepted-some : (b : Built) (line : List ℕ) (p : Properties) → accepted b line ≡ some p
-    → (lineRefusal b line ≡ none) × (lineProperties line ≡ some p)
-accepted-some b line p e = unlessRefused-some (lineRefusal b line) (lineProperties line) p e
-
--- it is stored
+-- an accepted line is stored
 pub addLine-accepted : (b : Built) (line : List ℕ) (p : Properties) → accepted b line ≡ some p → addLine b line ≡ added b p
 unfolding addLine
 addLine-accepted b line p e = ap (addGiven b) e

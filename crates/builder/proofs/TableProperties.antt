@@ -58,7 +58,7 @@ module _ (b : Built) (g : Grown b) where
   module _ (p : Properties) (next : b .state .next ≤ p .code) where
     -- ---- a line that says nothing
 
-    pub tableProperties-moved : saysNothing p ≡ true
+    tableProperties-moved : saysNothing p ≡ true
         → (c : ℕ) → tableProperties (cut (moved b p)) c ≡ cond (eqb (p .code) c) p (tableProperties (cut b) c)
     tableProperties-moved nothing c = go (eqb (p .code) c) refl
       where
@@ -116,7 +116,7 @@ module _ (b : Built) (g : Grown b) where
       by-before c none f = refl
       by-before c (some i) f = by-entry c i (omega (arith, entryOf-some (cut b .entries) c i f .0, entryCount-cut g))
 
-      pub tableProperties-appended : (c : ℕ)
+      tableProperties-appended : (c : ℕ)
           → tableProperties (cut (appended b p)) c ≡ cond (eqb (p .code) c) p (tableProperties (cut b) c)
       tableProperties-appended c =
           ap (propertiesIn after c) (entryOf-append n e (b .table .entries) within c) ∙ go (eqb (p .code) c) refl

@@ -5,8 +5,6 @@ use table::layout;
 ghost use mathlib.Core.Path.{_≡_};
 ghost use Prim.Native.Nat.{_≤_};
 ghost use lib.ListN.{length};
-ghost use Rattle.terms.specs.CodePoints.{scalar};
-ghost use Rattle.terms.specs.Lists.{all};
 ghost use Rattle.terms.specs.Refusals.{partsMost};
 ghost use Rattle.table.specs.Layout.{entryCount};
 ghost use Rattle.ucd.specs.Lines.{properties, saysNothing};
@@ -80,7 +78,14 @@ pub fn has_surrogate(code: u32, title: u32, parts: &[u32]) -> bool
     if !terms::is_scalar(title) {
         return true;
     }
-    !is_scalar_only(parts)
+    let mut i = 0;
+    while i < parts.len() {
+        if !terms::is_scalar(parts[i]) {
+            return true;
+        }
+        i += 1;
+    }
+    false
 }
 
 // Whether a line says nothing: its titlecase is itself, and it has no parts.
@@ -91,18 +96,4 @@ pub fn says_nothing(code: u32, title: u32, parts: &[u32]) -> bool
         return false;
     }
     parts.len() == 0
-}
-
-// Whether all numbers are scalar.
-fn is_scalar_only(numbers: &[u32]) -> bool
-    ensures { λ r. ⌜ r ≡ all scalar (now (numbers .entry)) ⌝ }
-{
-    let mut i = 0;
-    while i < numbers.len() {
-        if !terms::is_scalar(numbers[i]) {
-            return false;
-        }
-        i += 1;
-    }
-    true
 }

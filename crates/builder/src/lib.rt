@@ -14,7 +14,7 @@ ghost use lib.ListN.{length};
 ghost use Rattle.terms.specs.Refusals.{partsMost, refusal};
 ghost use Rattle.ucd.specs.Lines.{properties};
 ghost use Rattle.builder.specs.Builder.{built, Added};
-ghost use Rattle.builder.specs.Promises.{UsedFits, Adds};
+ghost use Rattle.builder.specs.Promises.{UsedFits, AddedGiven};
 
 // The builder's state: entries used, pool numbers used, and one more than the last code point, or 0. All zeros is fresh.
 pub struct LineState {
@@ -58,7 +58,7 @@ fn add_given(
 ) -> Line
     requires { ⌜ UsedFits (built state (now entries) (now pool)) ⌝ }
     requires { ⌜ length (now parts) ≤ partsMost ⌝ }
-    ensures { λ r. ⌜ Adds (built state (now (entries .entry)) (now (pool .entry))) (properties code title (now (parts .entry)))
+    ensures { λ r. ⌜ AddedGiven (built state (now (entries .entry)) (now (pool .entry))) (properties code title (now (parts .entry)))
         r (now (entries .exit)) (now (pool .exit)) ⌝ }
 {
     if checks::has_surrogate(code, title, parts) {

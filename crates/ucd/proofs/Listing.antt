@@ -71,7 +71,7 @@ pub record Lists (t parts : List ℕ) (at count : ℕ) : Type 0 where
 pub lists-first : (t parts : List ℕ) → Lists t parts 0 0
 lists-first t parts = record { stands = stands-first 0x20 t; listed = prepend-nil (codePoints (cut 0x20 t)) }
 
-module _ (t parts : List ℕ) (at count : ℕ) (w : Lists t parts at count) where
+module _ {t parts : List ℕ} {at count : ℕ} (w : Lists t parts at count) where
   -- the pieces are as many as were passed, and one or more
   pieces : (count + 1 ≤ length (cut 0x20 t)) × (length (cut 0x20 t) ≡ count + length (cut 0x20 (drop at t)))
   pieces =

@@ -11,7 +11,7 @@ use lib.Seq.{length-take-le}
 use Rattle.terms.specs.Refusals.{partsMost}
 use Rattle.terms.proofs.Checks.{or-left}
 use Rattle.table.specs.Layout.{entryCount}
-use Rattle.ucd.specs.Promises.{Gives, Reads}
+use Rattle.ucd.specs.Promises.{LineRead, Reads}
 use Rattle.builder.specs.Builder.{Built, built, impossible}
 use Rattle.builder.specs.Promises.{propertiesRefusal}
 use Rattle.builder.proofs.Refusals.{overfull-fits, lineRefusal-28, lineRefusal-possible}
@@ -49,7 +49,7 @@ abbrev count : tie.After-known-told → ℕ
 count g = g .before .reading .given .0 .1 .1 .0
 
 given : (g : tie.After-known-told)
-    → Gives (start-of (read g) .args .line .now) (out-of (read g))
+    → LineRead (start-of (read g) .args .line .now) (out-of (read g))
     (g .before .reading .given .0 .0) (g .before .reading .given .0 .1 .0) (count g)
 given g =
     subst (Reads (start-of (read g) .args .line .now) (out-of (read g)))
