@@ -29,7 +29,7 @@ use Rattle.terms.proofs.Checks.{answer-given, answer-refused}
 use Rattle.terms.proofs.Injective.{checkOutcome-inj}
 use Rattle.utf8.specs.Utf8.{Character, characters}
 use Rattle.table.specs.Mapping.{Mapping}
-use Rattle.table.specs.Table.{Table, refusedAt, formChecks, formRefusal, titleOf, partsOf, mappingOf}
+use Rattle.table.specs.Table.{Table, refusedAt, formChecks, formRefusal, mappingOf}
 use Rattle.decompose.specs.Steps.{stepsKey}
 use Rattle.decompose.specs.TableCheck.{levelFault, tableRefusal, tableAnswer}
 use Rattle.decompose.proofs.Demand3.{UnfoldsWell, Sound, accepted-exactly, accepted-level, accepted-lookups, accepted-key}
@@ -53,15 +53,16 @@ use Rattle.search.specs.Substring.{substringOutcome, substringValues, soughtVal
 use Rattle.search.specs.declared.Sought.{Sought}
 use Rattle.search.specs.declared.Sought.the-variants.{Match as Found, NoMatch}
 use Rattle.search.proofs.Cover.{Covers}
-use Rattle.ucd.specs.Builder.{Built, said, lineOutcome, stateAfter, Added}
-use Rattle.ucd.specs.Built.{startOf, cutEntries, cutPool, refusalOf, acceptedOf, Accepts, saidMapping}
-use Rattle.ucd.specs.declared.LineState.{LineState}
-use Rattle.ucd.specs.declared.Line.{Line}
-use Rattle.ucd.specs.declared.Line.the-variants.{Refused as LineRefused}
-use Rattle.ucd.proofs.Answers.{lineOutcome-inj}
-use Rattle.ucd.proofs.Accepted.{addLine-refused}
-use Rattle.ucd.proofs.BuiltForm.{built-form}
-use Rattle.ucd.proofs.BuiltMapping.{mappingOf-built, built-line, built-other}
+use Rattle.ucd.specs.Lines.{Properties}
+use Rattle.builder.specs.Builder.{Built, built, lineRefusal, lineOutcome, Added}
+use Rattle.builder.specs.Built.{startOf, cut, acceptedOf, Accepted, propertiesMapping}
+use Rattle.builder.specs.declared.LineState.{LineState}
+use Rattle.builder.specs.declared.Line.{Line}
+use Rattle.builder.specs.declared.Line.the-variants.{Refused as LineRefused}
+use Rattle.builder.proofs.Injective.{lineOutcome-inj}
+use Rattle.builder.proofs.Adding.{addLine-refused}
+use Rattle.builder.proofs.BuiltForm.{built-form}
+use Rattle.builder.proofs.BuiltMapping.{mappingOf-built, built-line, built-other}
 use Rattle.demands.specs.Demands.{Given, FirstApplies, tableChecks, callChecks, CollationNumber, Precedes, OccursAt, Hit, Grows, Exact, Short, Bounds}
 use Rattle.demands.proofs.Rows.{first-exactly, first-append, first-callChecks}
 use Rattle.demands.proofs.Numbers.{one-exactly, two-first, two-second, eight-first, eight-second}
@@ -110,11 +111,11 @@ call-refused h x = (answered-refused h x, λ e. let told = rw e at (h .answered)
 
 -- `add_line` does, and gives back the state that came in
 pub line-refused : {b : Built} {line es pool : List ℕ} {r : Line} → Added b line r es pool
-    → (x : Refusal) → (r ≡ LineRefused x (b .state)) ↔ (refusalOf b line ≡ some x)
+    → (x : Refusal) → (r ≡ LineRefused x (b .state)) ↔ (lineRefusal b line ≡ some x)
 line-refused {b} {line} {r} h x = (
-  λ e. answer-refused (refusalOf b line) _ x (ap lineOutcome (sym e) ∙ h .answered),
+  λ e. answer-refused (lineRefusal b line) _ x (ap lineOutcome (sym e) ∙ h .answered),
   λ e. lineOutcome-inj r (LineRefused x (b .state)) (rw e at (h .answered))
-      (h .state ∙ ap (λ (c : Built). c .state) (addLine-refused b line x e)),
+      (ap (λ (c : Built). c .state) (h .left ∙ addLine-refused b line x e)),
 )
 
 -- three of the numbers in words, of a call on texts, one or two, each with its buffer: 1 exactly when the collation is not 1, 2, 3
@@ -156,11 +157,10 @@ call-kept h x e = rw (call-refused h x .0 e) at (h .left)
 
 -- a refused `add_line` leaves the state, the entries and the pool
 pub line-kept : {b : Built} {line es pool : List ℕ} {r : Line} → Added b line r es pool
-    → (x : Refusal) (st : LineState) → r ≡ LineRefused x st → (st ≡ b .state) × ((es ≡ b .entries) × (pool ≡ b .pool))
+    → (x : Refusal) (st : LineState) → r ≡ LineRefused x st → built st es pool ≡ b
 line-kept {b} {line} h x st e =
-    let o : refusalOf b line ≡ some x = answer-refused (refusalOf b line) _ x (ap lineOutcome (sym e) ∙ h .answered) in
-    let stays = addLine-refused b line x o in
-    (ap stateAfter (sym e) ∙ rw stays at (h .state), (rw stays at (h .entries), rw stays at (h .pool)))
+    let is : lineRefusal b line ≡ some x = answer-refused (lineRefusal b line) _ x (ap lineOutcome (sym e) ∙ h .answered) in
+    rw e at (h .left) ∙ addLine-refused b line x is
 
 -- ================================================================ Demand 2
 
@@ -296,25 +296,24 @@ module _ {t : Table} {l n : Lent} {r : Sought} {after : List (List ℕ)}
 -- ---- "Built tables hold exactly the mappings of the accepted lines."
 
 -- calls of `add_line` have grown a table from the fresh state, over any two slices
-module _ {es pool : List ℕ} {lines : List (List ℕ)} {b : Built} (g : Grows (startOf es pool) lines b) where
-  -- cut to what is used, its mapping is the one that the accepted lines say
-  pub built-holds : mappingOf (cutEntries b) (cutPool b) ≡ saidMapping (acceptedOf (startOf es pool) lines)
-  built-holds = rw (grows-is g) (mappingOf-built es pool lines)
+module _ {t : Table} {lines : List (List ℕ)} {b : Built} (g : Grows (startOf t) lines b) where
+  -- cut to what is used, its mapping is the one that the accepted lines give
+  pub built-holds : mappingOf (cut b) ≡ propertiesMapping (acceptedOf (startOf t) lines)
+  built-holds = rw (grows-is g) (mappingOf-built t lines)
 
   -- of the code point of an accepted line it has that line's titlecase and decomposition
-  pub built-says : (line : List ℕ) → Accepts (startOf es pool) lines line
-      → (titleOf (cutEntries b) (said line .code) ≡ said line .title)
-      × (partsOf (cutEntries b) (cutPool b) (said line .code) ≡ said line .parts)
-  built-says = rw (grows-is g) (built-line es pool lines)
+  pub built-gives : (line : List ℕ) (p : Properties) → Accepted (startOf t) lines line p
+      → (mappingOf (cut b) .title (p .code) ≡ p .title) × (mappingOf (cut b) .parts (p .code) ≡ p .parts)
+  built-gives = rw (grows-is g) (built-line t lines)
 
   -- and of a code point that no accepted line has, nothing
-  pub built-nothing-else : (c : ℕ) → ((line : List ℕ) → Accepts (startOf es pool) lines line → said line .code ≡ c → ⊥)
-      → (titleOf (cutEntries b) c ≡ c) × (partsOf (cutEntries b) (cutPool b) c ≡ [])
-  built-nothing-else = rw (grows-is g) (built-other es pool lines)
+  pub built-nothing-else : (c : ℕ) → ((line : List ℕ) (p : Properties) → Accepted (startOf t) lines line p → p .code ≡ c → ⊥)
+      → (mappingOf (cut b) .title c ≡ c) × (mappingOf (cut b) .parts c ≡ [])
+  built-nothing-else = rw (grows-is g) (built-other t lines)
 
   -- it passes checks 3 to 6
-  pub built-formed : formRefusal (cutEntries b) (cutPool b) ≡ none
-  built-formed = rw (grows-is g) (built-form es pool lines)
+  pub built-formed : formRefusal (cut b) ≡ none
+  built-formed = rw (grows-is g) (built-form t lines)
 
 -- ================================================================ Demand 3
 

@@ -21,9 +21,8 @@ use Rattle.keys.specs.declared.Summary.{Summary}
 use Rattle.prepare.specs.Calls.{Lent, Call, lengths, preparedIn, collationCheck, lengthCheck, tableCheck, roomCheck}
 use Rattle.search.specs.Covering.{span}
 use Rattle.search.specs.Substring.{textRun}
-use Rattle.ucd.specs.Builder.{Built, stateAfter, Added}
-use Rattle.ucd.specs.Promises.{built}
-use Rattle.ucd.specs.declared.Line.{Line}
+use Rattle.builder.specs.Builder.{Built, built, stateAfter, Added}
+use Rattle.builder.specs.declared.Line.{Line}
 
 -- ---- refusals
 

@@ -1,0 +1,123 @@
+-- `builder::checks::has_surrogate` meets its contract: at each return the tests that led there decide those of `surrogate`. The
+-- loop's invariant: there is a surrogate if there is one among the parts that are left. The measure is what is left.
+-- Assumes nothing.
+use mathlib.Core.Path.{_≡_, sym, _∙_, ap}
+use mathlib.Core.Bool.{true, false, not, and-false}
+use Prim.Native.Nat.{_≤_, _-_}
+use native.Mathlib.Omega.{arith}
+use borrow.Author.Needs.{needs}
+use borrow.Author.Tests.{not-true, not-false}
+use lib.ListN.{length, drop}
+use Rattle.terms.specs.CodePoints.{scalar}
+use Rattle.terms.specs.Lists.{all}
+use Rattle.ucd.specs.Lines.{properties, saysNothing}
+use Rattle.ucd.proofs.Walks.{all-more, all-fails, all-end}
+use Rattle.builder.specs.Builder.{surrogate}
+use Rattle.builder.proofs.checks.has_surrogate.Statement.{statement}
+use Rattle.builder.proofs.checks.has_surrogate.Tie as tie
+
+abbrev Inv-loop : tie.InvT-loop
+Inv-loop code title parts i₀ i =
+    (i ≤ length parts) × (surrogate (properties code title parts) ≡ not (all scalar (drop i parts)))
+
+abbrev μ-loop : tie.MeasureT-loop
+μ-loop code title parts i₀ i = length parts - i
+
+-- where the line has a mapping
+maps : (c : tie.Else1 Inv-loop μ-loop)
+    → let a = c .before .before .before .args in
+    saysNothing (properties (a .code) (a .title) (a .parts .now)) ≡ false
+maps c = sym (c .before .says-nothing .ensures) ∙ c .if1 .left
+
+says-nothing-requires : tie.Need-says-nothing-requires Inv-loop μ-loop
+says-nothing-requires c κs = search needs
+
+-- a line that says nothing
+returns : tie.Need-returns Inv-loop μ-loop
+returns c = rw (← (c .before .says-nothing .ensures), c .if1 .taken)
+
+is-scalar-requires : tie.Need-is-scalar-requires Inv-loop μ-loop
+is-scalar-requires c κs = search needs
+
+-- the code point
+returns-2 : tie.Need-returns-2 Inv-loop μ-loop
+returns-2 c = simp (maps (c .before .before), sym (c .before .is-scalar .ensures) ∙ not-true _ (c .if2 .taken))
+
+is-scalar-requires-2 : tie.Need-is-scalar-requires-2 Inv-loop μ-loop
+is-scalar-requires-2 c κs = search needs
+
+-- the titlecase
+returns-3 : tie.Need-returns-3 Inv-loop μ-loop
+returns-3 c =
+    simp (
+      maps (c .before .before .before .before),
+      sym (c .before .is-scalar2 .ensures) ∙ not-true _ (c .if3 .taken),
+      and-false,
+    )
+
+-- neither of them
+loop-holds : tie.Need-loop-holds Inv-loop μ-loop
+loop-holds c =
+    let code = c .before .before in (
+      search needs,
+      simp (
+        maps (code .before .before),
+        sym (code .before .is-scalar .ensures) ∙ not-false _ (code .if2 .left),
+        sym (c .before .is-scalar2 .ensures) ∙ not-false _ (c .if3 .left),
+      ),
+    )
+
+mul-is-scalar : tie.Need-mul-is-scalar Inv-loop μ-loop
+mul-is-scalar c = search needs
+
+shared-slice-read-is-scalar : tie.Need-shared-slice-read-is-scalar Inv-loop μ-loop
+shared-slice-read-is-scalar c = omega arith
+
+is-scalar-requires-3 : tie.Need-is-scalar-requires-3 Inv-loop μ-loop
+is-scalar-requires-3 c κs = search needs
+
+-- a part
+returns-4 : tie.Need-returns-4 Inv-loop μ-loop
+returns-4 c =
+    let inside = c .before .before .before in
+    let here = sym (c .before .is-scalar3 .ensures) ∙ not-true _ (c .if4 .taken) in
+    sym (inside .before .loop .inv .1 ∙ ap not (all-fails scalar _ _ (inside .loop-test .taken) here))
+
+add-i : tie.Need-add-i Inv-loop μ-loop
+add-i c = omega arith
+
+loop-less : tie.Need-loop-less Inv-loop μ-loop
+loop-less c = omega arith
+
+-- not this part
+loop-again : tie.Need-loop-again Inv-loop μ-loop
+loop-again c =
+    let inside = c .before .before .before in
+    let here = sym (c .before .is-scalar3 .ensures) ∙ not-false _ (c .if4 .left) in
+    (omega arith, inside .before .loop .inv .1 ∙ ap not (all-more scalar _ _ (inside .loop-test .taken) here))
+
+-- no part
+returns-5 : tie.Need-returns-5 Inv-loop μ-loop
+returns-5 c = sym (c .before .loop .inv .1 ∙ ap not (all-end scalar _ _ (c .loop-test .left)))
+
+pub has-surrogate-spec : {M : Type 1} → statement M
+has-surrogate-spec =
+    tie.close
+    (tie.spec
+    Inv-loop
+    μ-loop
+    says-nothing-requires
+    returns
+    is-scalar-requires
+    returns-2
+    is-scalar-requires-2
+    returns-3
+    loop-holds
+    mul-is-scalar
+    shared-slice-read-is-scalar
+    is-scalar-requires-3
+    returns-4
+    add-i
+    loop-less
+    loop-again
+    returns-5)
