@@ -6,7 +6,7 @@ use native.Mathlib.Omega.{arith}
 use mathlib.Core.List.{List, _++_}
 use lib.ListN.{length, take, drop, length-append, length-take, length-drop}
 use Rattle.terms.proofs.Parts.{take-drop, put-back}
-use Rattle.pairing.specs.Promises.{Puts}
+use Rattle.octets.specs.Put.{Puts}
 
 -- what was written into a slice that keeps its length lies within it
 pub puts-within : (octets before : List ℕ) (n : ℕ) (after : List ℕ) → Puts octets before n after → length after ≡ length before

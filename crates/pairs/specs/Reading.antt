@@ -1,8 +1,10 @@
 -- What the functions of the program ask of a reader, a table's state and the output, and promise: that places lie within the slices,
 -- and that the number by which loops end falls.
 -- Assumes nothing.
-use Prim.Native.Nat.{ℕ, _+_, _*_, _≤_, _<_}
-use Rattle.ucd.specs.declared.LineState.{LineState}
+use Prim.Native.Nat.{ℕ, _+_, _≤_, _<_}
+use mathlib.Core.List.{List}
+use Rattle.builder.specs.Builder.{built}
+use Rattle.builder.specs.Promises.{UsedFits}
 use Rattle.pairing.specs.Words.{wordsMost}
 use Rattle.pairs.specs.declared.reader.Reader.{Reader}
 use Rattle.pairs.specs.declared.reader.Next.{Next}
@@ -14,7 +16,7 @@ use Rattle.pairs.specs.declared.growing.Grown.the-variants.{Table, Refus
 use Rattle.pairs.specs.declared.growing.Added.{Added}
 use Rattle.pairs.specs.declared.growing.Added.the-variants.{Taken, Done}
 use Rattle.pairs.specs.declared.answers.Answered.{Answered}
-use Rattle.pairs.specs.declared.answers.Answered.the-variants.{Answer as Outcome, Nothing, End as Ended}
+use Rattle.pairs.specs.declared.answers.Answered.the-variants.{Answer as Answering, Nothing, End as Ended}
 use Rattle.pairs.specs.declared.output.Output.{Output}
 
 -- ---- reading
@@ -49,26 +51,21 @@ Steps n bound (More r) = Goes n bound r
 
 -- ---- the table
 
--- what a state says is used lies within slices of these lengths
-pub record UsedWithin (st : LineState) (entries pool : ℕ) : Type 0 where
-  pub whole : st .«entries_used» * 4 ≤ entries
-  pub parts : st .«pool_used» ≤ pool
-
--- what became of the lines of a file
-abbrev pub GrownWithin : ℕ → ℕ → Grown → Type 0
-GrownWithin entries pool (Table st) = UsedWithin st entries pool
-GrownWithin entries pool (Refused k) = Unit {0}
+-- what became of the lines of a file: what the state says is used lies within the slices
+abbrev pub GrownFits : List ℕ → List ℕ → Grown → Type 0
+GrownFits entries pool (Table st) = UsedFits (built st entries pool)
+GrownFits entries pool (Refused k) = Unit {0}
 
 -- what became of one line more
-abbrev pub AddedWithin : ℕ → ℕ → ℕ → ℕ → Added → Type 0
-AddedWithin n bound entries pool (Taken st r) = UsedWithin st entries pool × Goes n bound r
-AddedWithin n bound entries pool (Done grown) = GrownWithin entries pool grown
+abbrev pub AddedFits : ℕ → ℕ → List ℕ → List ℕ → Added → Type 0
+AddedFits n bound entries pool (Taken st r) = UsedFits (built st entries pool) × Goes n bound r
+AddedFits n bound entries pool (Done grown) = GrownFits entries pool grown
 
 -- ---- the answers
 
 -- where the reader goes on after an answer
 abbrev pub Answers : ℕ → ℕ → Answered → Type 0
-Answers n bound (Outcome answer r) = Goes n bound r
+Answers n bound (Answering answer r) = Goes n bound r
 Answers n bound (Nothing r) = Goes n bound r
 Answers n bound Ended = Unit {0}
 

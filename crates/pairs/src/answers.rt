@@ -8,6 +8,7 @@ ghost use mathlib.Core.Path.{_≡_};
 ghost use mathlib.Core.Option.{none};
 ghost use Prim.Native.Nat.{_≤_};
 ghost use lib.ListN.{length};
+ghost use Rattle.table.specs.Table.{table};
 ghost use Rattle.decompose.specs.TableCheck.{tableRefusal};
 ghost use Rattle.pairs.specs.Reading.{Stands, Answers, linesMost};
 
@@ -24,7 +25,7 @@ pub enum Answered {
 
 // Answers every line of an input: the heading, a line for each, and the count.
 pub fn answer_all(fd: i32, buffer: &mut [u8], entries: &[u32], pool: &[u32])
-    requires { ⌜ tableRefusal (now entries) (now pool) ≡ none ⌝ }
+    requires { ⌜ tableRefusal (table (now entries) (now pool)) ≡ none ⌝ }
 {
     let mut out = io::large_buffer();
     let mut first_key = [0u8; KEY_OCTETS];
@@ -50,7 +51,7 @@ fn answer_lines(
     second_key: &mut [u8],
     out: &mut [u8],
 )
-    requires { ⌜ (tableRefusal (now entries) (now pool) ≡ none) × (linesMost ≤ length (now out)) ⌝ }
+    requires { ⌜ (tableRefusal (table (now entries) (now pool)) ≡ none) × (linesMost ≤ length (now out)) ⌝ }
 {
     let mut reader = Reader::new();
     let mut output = output::start(out);
@@ -87,7 +88,7 @@ fn answer_next(
     first_key: &mut [u8],
     second_key: &mut [u8],
 ) -> Answered
-    requires { ⌜ Stands (length (now buffer)) reader × (tableRefusal (now entries) (now pool) ≡ none) ⌝ }
+    requires { ⌜ Stands (length (now buffer)) reader × (tableRefusal (table (now entries) (now pool)) ≡ none) ⌝ }
     ensures { λ r. ⌜ Answers (length (now (buffer .entry))) (reader .left) r ⌝ }
 {
     let next = reader::next_line(fd, buffer, reader);

@@ -1,12 +1,14 @@
 // The table from the lines of a file.
+use builder::Line;
+use builder::LineState;
 use crate::reader;
 use crate::reader::Next;
 use crate::reader::Reader;
-use ucd::Line;
-use ucd::LineState;
 ghost use Prim.Native.Nat.{ℕ};
 ghost use lib.ListN.{length};
-ghost use Rattle.pairs.specs.Reading.{Stands, Goes, UsedWithin, GrownWithin, AddedWithin};
+ghost use Rattle.builder.specs.Builder.{built};
+ghost use Rattle.builder.specs.Promises.{UsedFits};
+ghost use Rattle.pairs.specs.Reading.{Stands, Goes, GrownFits, AddedFits};
 
 // The number for a file that can't be read.
 const UNREADABLE: u32 = 0;
@@ -26,7 +28,7 @@ pub enum Added {
 
 // Adds the lines of a file to a fresh table.
 pub fn grow_from(path: &[u8], buffer: &mut [u8], entries: &mut [u32], pool: &mut [u32]) -> Grown
-    ensures { λ r. ⌜ GrownWithin (length (now (entries .entry))) (length (now (pool .entry))) r ⌝ }
+    ensures { λ r. ⌜ GrownFits (now (entries .exit)) (now (pool .exit)) r ⌝ }
 {
     let fd = os::open_read(path);
     if fd < 0 {
@@ -39,7 +41,7 @@ pub fn grow_from(path: &[u8], buffer: &mut [u8], entries: &mut [u32], pool: &mut
 
 // Adds all lines.
 fn grow(fd: i32, buffer: &mut [u8], entries: &mut [u32], pool: &mut [u32]) -> Grown
-    ensures { λ r. ⌜ GrownWithin (length (now (entries .entry))) (length (now (pool .entry))) r ⌝ }
+    ensures { λ r. ⌜ GrownFits (now (entries .exit)) (now (pool .exit)) r ⌝ }
 {
     let mut reader = Reader::new();
     let mut state = LineState {
@@ -70,8 +72,8 @@ fn add_next(
     entries: &mut [u32],
     pool: &mut [u32],
 ) -> Added
-    requires { ⌜ Stands (length (now buffer)) reader × UsedWithin state (length (now entries)) (length (now pool)) ⌝ }
-    ensures { λ r. ⌜ AddedWithin (length (now (buffer .entry))) (reader .left) (length (now (entries .entry))) (length (now (pool .entry))) r ⌝ }
+    requires { ⌜ Stands (length (now buffer)) reader × UsedFits (built state (now entries) (now pool)) ⌝ }
+    ensures { λ r. ⌜ AddedFits (length (now (buffer .entry))) (reader .left) (now (entries .exit)) (now (pool .exit)) r ⌝ }
 {
     let next = reader::next_line(fd, buffer, reader);
     match next {
@@ -90,10 +92,10 @@ fn add_read(
     entries: &mut [u32],
     pool: &mut [u32],
 ) -> Added
-    requires { ⌜ UsedWithin state (length (now entries)) (length (now pool)) ⌝ }
-    ensures { λ r. ⌜ ((n bound : ℕ) → Goes n bound rest → AddedWithin n bound (length (now (entries .entry))) (length (now (pool .entry))) r) ⌝ }
+    requires { ⌜ UsedFits (built state (now entries) (now pool)) ⌝ }
+    ensures { λ r. ⌜ ((n bound : ℕ) → Goes n bound rest → AddedFits n bound (now (entries .exit)) (now (pool .exit)) r) ⌝ }
 {
-    let added = ucd::add_line(state, line, entries, pool);
+    let added = builder::add_line(state, line, entries, pool);
     match added {
         Line::Taken(s) => Added::Taken(s, rest),
         Line::Refused(r, _) => Added::Done(Grown::Refused(r.number)),

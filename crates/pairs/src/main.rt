@@ -2,21 +2,21 @@
 // standard input how its two texts are ordered.
 //
 // What a program reads and writes can't stand in a contract: here every function is proved safe and ending, and what is decided of
-// a line, and the words that are printed, are contracts of the crates pairing, ucd and decompose.
+// a line, and the words that are printed, are contracts of the crates pairing, builder and decompose.
 mod answers;
 mod growing;
 mod output;
 mod reader;
 
+use builder::LineState;
 use crate::growing::Grown;
 use libc::STDIN_FILENO;
-use table::TableCheck;
-use ucd::LineState;
-ghost use Rattle.pairs.specs.Reading.{UsedWithin};
-ghost use lib.ListN.{length};
+use terms::Check;
+ghost use Rattle.builder.specs.Builder.{built};
+ghost use Rattle.builder.specs.Promises.{UsedFits};
 
-// Room for the table: 1,024 entries of four numbers each, and 2,048 pool numbers.
-const ENTRY_NUMBERS: usize = 4096;
+// Room for the table: 1,024 entries, and 2,048 pool numbers.
+const ENTRY_NUMBERS: usize = 1024 * table::layout::ENTRY_WIDTH;
 
 const POOL_NUMBERS: usize = 2048;
 
@@ -38,18 +38,18 @@ fn build(buffer: &mut [u8], entries: &mut [u32], pool: &mut [u32]) {
 
 // Cuts the slices to what is used.
 fn start(state: LineState, buffer: &mut [u8], entries: &[u32], pool: &[u32])
-    requires { ⌜ UsedWithin state (length (now entries)) (length (now pool)) ⌝ }
+    requires { ⌜ UsedFits (built state (now entries) (now pool)) ⌝ }
 {
-    let used = state.entries_used * 4;
+    let used = table::layout::first_entries(entries, state.entries_used);
     let parts = state.pool_used;
-    run(buffer, &entries[..used], &pool[..parts]);
+    run(buffer, used, &pool[..parts]);
 }
 
 // Checks the table once, and answers all lines.
 fn run(buffer: &mut [u8], entries: &[u32], pool: &[u32]) {
     let check = decompose::check_table(entries, pool);
     match check {
-        TableCheck::Accepted => answers::answer_all(STDIN_FILENO, buffer, entries, pool),
-        TableCheck::Refused(r) => output::refuse_table(r.number),
+        Check::Passed => answers::answer_all(STDIN_FILENO, buffer, entries, pool),
+        Check::Refused(r) => output::refuse_table(r.number),
     }
 }

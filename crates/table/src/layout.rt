@@ -7,7 +7,7 @@ ghost use Prim.Native.Nat.{_<_, _≤_};
 ghost use Rattle.table.specs.Layout.{entryWidth, entry, entryCount, wholeEntries, numberAt, codeAt, titleAt, startAt, countAt, putEntry, firstEntries};
 
 // How many numbers an entry has.
-const ENTRY_WIDTH: usize = 4;
+pub const ENTRY_WIDTH: usize = 4;
 
 // The number of whole entries.
 pub fn entry_count(entries: &[u32]) -> usize

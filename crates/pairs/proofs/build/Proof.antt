@@ -1,9 +1,7 @@
--- `pairs::build` is safe and ends: the state that the lines leave lies within the slices, which kept their lengths.
+-- `pairs::build` is safe and ends: the state that the lines leave lies within the slices.
 -- Assumes nothing.
 use mathlib.Core.Path.{subst}
-use native.Mathlib.Omega.{arith}
-use lib.ListN.{length}
-use Rattle.pairs.specs.Reading.{UsedWithin, GrownWithin}
+use Rattle.pairs.specs.Reading.{GrownFits}
 use borrow.Author.Needs.{needs}
 use Rattle.pairs.proofs.build.Statement.{statement}
 use Rattle.pairs.proofs.build.Tie as tie
@@ -22,14 +20,7 @@ start-requires : tie.Need-start-requires
 start-requires c κs =
     let k = c .before .before .before .before in
     let p = k .before .before .before .before .before .before .before .before in
-    let a = p .before .before .before .before .before .before .before .before .args in
-    let grown : UsedWithin (k .grown .given .0 .0) (length (a .entries .now)) (length (a .pool .now)) =
-    subst (GrownWithin (length (a .entries .now)) (length (a .pool .now))) (k .grown .given .1) (p .grow-from .ensures)
-    in
-    record {
-      whole = omega (arith, grown .whole, p .grow-from .kept .1 .1 .0);
-      parts = omega (arith, grown .parts, p .grow-from .kept .1 .1 .1 .0);
-    }
+    subst (GrownFits (p .grow-from .last .1 .1 .0) (p .grow-from .last .1 .1 .1 .0)) (k .grown .given .1) (p .grow-from .ensures)
 
 enum-known-grown-2 : tie.Need-enum-known-grown-2
 enum-known-grown-2 c = search needs

@@ -1,5 +1,6 @@
 -- `pairs::run` hands an accepted table on: the check says so.
 -- Assumes nothing.
+use Rattle.table.specs.Table.{table}
 use Rattle.pairs.proofs.Taken.{accepted}
 use borrow.Author.Needs.{needs}
 use Rattle.pairs.proofs.run.Statement.{statement}
@@ -16,7 +17,7 @@ answer-all-requires : tie.Need-answer-all-requires
 answer-all-requires c κs =
     let p = c .before .before .before in
     let a = p .before .before .before .before .args in
-    accepted (a .entries .now) (a .pool .now) (p .check-table .result) (c .before .enum-told .given .1) (p .check-table .ensures)
+    accepted (table (a .entries .now) (a .pool .now)) (p .check-table .result) (c .before .enum-told .given .1) (p .check-table .ensures)
 
 enum-known-check : tie.Need-enum-known-check
 enum-known-check c = search needs

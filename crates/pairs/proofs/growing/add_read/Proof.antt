@@ -1,6 +1,5 @@
 -- `pairs::growing::add_read` promises a state within the slices where the line is taken: the builder keeps it so.
 -- Assumes nothing.
-use Rattle.ucd.specs.Promises.{built}
 use Rattle.pairs.proofs.Taken.{used-taken}
 use borrow.Author.Needs.{needs}
 use Rattle.pairs.proofs.growing.add_read.Statement.{statement}
@@ -27,11 +26,7 @@ returns c =
     let known = c .before in
     let called = known .before .before .before .before .before .before in
     let s = called .before .before .before .before .before .before in
-    λ n bound goes. (
-      used-taken (built (s .args .state) (s .args .entries .now) (s .args .pool .now)) (s .args .line .now) (s .pre)
-          (known .added .given .0 .0) _ _ (rw (known .added .given .1) at (called .add-line .ensures)),
-      goes,
-    )
+    λ n bound goes. (used-taken (s .pre) (rw (known .added .given .1) at (called .add-line .ensures)), goes)
 
 same-length-3 : tie.Need-same-length-3
 same-length-3 c = search needs

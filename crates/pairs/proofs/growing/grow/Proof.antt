@@ -5,7 +5,11 @@ use mathlib.Core.Path.{_≡_, refl, sym, _∙_, subst}
 use native.Mathlib.Omega.{arith}
 use borrow.Author.Needs.{needs}
 use lib.ListN.{length}
-use Rattle.pairs.specs.Reading.{Stands, UsedWithin, AddedWithin}
+use Rattle.table.specs.Table.{table}
+use Rattle.builder.specs.Builder.{built}
+use Rattle.builder.specs.Promises.{UsedFits}
+use Rattle.builder.proofs.Grown.{grown-start}
+use Rattle.pairs.specs.Reading.{Stands, AddedFits}
 use Rattle.pairs.specs.declared.growing.Added.{Added}
 use Rattle.pairs.specs.declared.growing.Added.the-variants.{Taken, Done}
 use Rattle.pairs.proofs.Going.{stands-same, stands-anywhere}
@@ -18,7 +22,7 @@ Inv-loop fd buffer₀ entries₀ pool₀ reader₀ state₀ buffer entries pool 
     × (length entries ≡ length entries₀)
     × (length pool ≡ length pool₀)
     × Stands (length buffer₀) reader
-    × UsedWithin state (length entries₀) (length pool₀)
+    × UsedFits (built state entries pool)
 
 abbrev μ-loop : tie.MeasureT-loop
 μ-loop fd buffer₀ entries₀ pool₀ reader₀ state₀ buffer entries pool reader state = reader .left
@@ -28,18 +32,20 @@ abbrev head : tie.After-add-next Inv-loop μ-loop → tie.At-loop Inv-loop μ-lo
 head p = p .before .before .before .before
 
 became : (p : tie.After-add-next Inv-loop μ-loop) (x : Added) → p .add-next .result ≡ x
-    → let l = head p .loop in AddedWithin (length (l .buffer)) (l .reader .left) (length (l .entries)) (length (l .pool)) x
+    → let l = head p .loop in AddedFits (length (l .buffer)) (l .reader .left) (p .add-next .last .1 .1 .1 .1 .0) (p .add-next .last .1 .1 .1 .1 .1 .0) x
 became p x e =
     let l = head p .loop in
-    subst (AddedWithin (length (l .buffer)) (l .reader .left) (length (l .entries)) (length (l .pool))) e (p .add-next .ensures)
+    subst (AddedFits (length (l .buffer)) (l .reader .left) (p .add-next .last .1 .1 .1 .1 .0) (p .add-next .last .1 .1 .1 .1 .1 .0)) e
+    (p .add-next .ensures)
 
 -- where it was taken
 abbrev called : tie.After-added Inv-loop μ-loop → tie.After-add-next Inv-loop μ-loop
 called k = k .before .before .before .before .before .before .before .before
 
 taken : (k : tie.After-added Inv-loop μ-loop)
-    → let l = head (called k) .loop in
-    AddedWithin (length (l .buffer)) (l .reader .left) (length (l .entries)) (length (l .pool))
+    → let p = called k in
+    let l = head p .loop in
+    AddedFits (length (l .buffer)) (l .reader .left) (p .add-next .last .1 .1 .1 .1 .0) (p .add-next .last .1 .1 .1 .1 .1 .0)
     (Taken (k .added .given .0 .0) (k .added .given .0 .1 .0))
 taken k = became (called k) (Taken (k .added .given .0 .0) (k .added .given .0 .1 .0)) (k .added .given .1)
 
@@ -57,7 +63,7 @@ loop-holds c = (
   refl,
   refl,
   stands-anywhere (length (c .before .before .before .before .args .buffer .now)) (c .new .result) (c .new .ensures .0),
-  omega arith,
+  let a = c .before .before .before .before .args in grown-start (table (a .entries .now) (a .pool .now)) .fits,
 )
 
 -- within slices that are as long as they were
@@ -66,7 +72,7 @@ add-next-requires c κs =
     let l = c .before .before .before in
     let inv = l .loop .inv in (
       stands-same _ _ (l .loop .reader) (sym (inv .0)) (inv .3),
-      record { whole = omega (arith, inv .1, inv .4 .whole); parts = omega (arith, inv .2, inv .4 .parts) },
+      inv .4,
     )
 
 enum-known-added : tie.Need-enum-known-added Inv-loop μ-loop
@@ -86,7 +92,7 @@ loop-again c =
       omega (arith, p .add-next .kept .1 .1 .1 .1 .0, inv .1),
       omega (arith, p .add-next .kept .1 .1 .1 .1 .1 .0, inv .2),
       stands-same _ _ (k .added .given .0 .1 .0) (inv .0) (taken k .1 .stands),
-      record { whole = omega (arith, inv .1, taken k .0 .whole); parts = omega (arith, inv .2, taken k .0 .parts) },
+      taken k .0,
     )
 
 enum-known-added-2 : tie.Need-enum-known-added-2 Inv-loop μ-loop
@@ -106,9 +112,7 @@ same-length-3 c = let p = called-last (c .before) in p .add-next .kept .1 .1 .1 
 returns : tie.Need-returns Inv-loop μ-loop
 returns c =
     let k = c .before in
-    let p = called-last k in
-    let inv = head p .loop .inv in
-    rw (inv .1, inv .2) at (became p (Done (k .added2 .given .0 .0)) (k .added2 .given .1))
+    became (called-last k) (Done (k .added2 .given .0 .0)) (k .added2 .given .1)
 
 pub grow-spec : {M : Type 1} → statement M
 grow-spec =
