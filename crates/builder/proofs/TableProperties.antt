@@ -2,7 +2,7 @@
 -- line of its code point, and of the others what they were.
 -- Assumes nothing.
 use mathlib.Core.Path.{_≡_, refl, sym, _∙_, ap, ap₂}
-use Prim.Native.Nat.{ℕ, _+_, _≤_, _<_}
+use Prim.Native.Nat.{ℕ, _≤_, _<_}
 use native.Mathlib.Omega.{arith}
 use mathlib.Core.Bool.{Bool, true, false, cond}
 use mathlib.Core.Option.{Option, none, some}
@@ -13,7 +13,7 @@ use lib.Seq.{take-length, drop-at, take-append-le, drop-append-le}
 use borrow.Author.Tests.{eqb-true}
 use Rattle.terms.specs.Lists.{orElse, when}
 use Rattle.terms.proofs.Tests.{both}
-use Rattle.table.specs.Layout.{Entry, entryCount, codeAt, startAt, countAt}
+use Rattle.table.specs.Layout.{Entry, entryCount, startAt, countAt}
 use Rattle.table.specs.Table.{Table, entryOf, titleIn, titleOf, partsIn, partsOf}
 use Rattle.table.proofs.Form.{formed-fits, entryOf-none, entryOf-some}
 use Rattle.table.proofs.Appending.{titleAt-before, startAt-before, countAt-before, titleAt-last, startAt-last, countAt-last, entryOf-append}

@@ -1,14 +1,13 @@
 -- `builder::add_line` meets its contract: 28, then what the reading of the line gives, then what becomes of what the line gives.
 -- Assumes nothing.
 use mathlib.Core.Path.{_≡_, refl, sym, _∙_, subst}
-use mathlib.Core.Bool.{false, _||_}
+use mathlib.Core.Bool.{false}
 use mathlib.Core.List.{List}
-use Prim.Native.Nat.{ℕ, _≤_}
+use Prim.Native.Nat.{ℕ}
 use native.Mathlib.Omega.{arith}
 use borrow.Author.Needs.{needs}
 use lib.ListN.{length, take}
 use lib.Seq.{length-take-le}
-use Rattle.terms.specs.Refusals.{partsMost}
 use Rattle.terms.proofs.Checks.{or-left}
 use Rattle.table.specs.Layout.{entryCount}
 use Rattle.ucd.specs.Promises.{LineRead, Reads}

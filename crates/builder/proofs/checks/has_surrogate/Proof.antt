@@ -2,7 +2,7 @@
 -- loop's invariant: there is a surrogate if there is one among the parts that are left. The measure is what is left.
 -- Assumes nothing.
 use mathlib.Core.Path.{_≡_, sym, _∙_, ap}
-use mathlib.Core.Bool.{true, false, not, and-false}
+use mathlib.Core.Bool.{false, not, and-false}
 use Prim.Native.Nat.{_≤_, _-_}
 use native.Mathlib.Omega.{arith}
 use borrow.Author.Needs.{needs}
