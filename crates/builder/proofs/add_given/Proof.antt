@@ -51,7 +51,7 @@ returns c =
     let called = c .before .before in
     rw (c .refused .ensures)
     (addedBy-refused (before (called .before .before .before .before))
-    (rw (sym (called .has-surrogate .ensures) ∙ c .before .if1 .taken)))
+    (rw (← (called .has-surrogate .ensures), c .before .if1 .taken)))
 
 refused-requires-2 : tie.Need-refused-requires-2
 refused-requires-2 c κs = search needs
@@ -83,12 +83,12 @@ returns-3 c =
     let d = was-above called in
     rw (c .refused3 .ensures)
     (addedBy-refused (before (start-of (was-clean d)))
-    (rw (clean (was-clean d), above d, sym (called .is-crowded .ensures) ∙ c .before .if3 .taken)))
+    (rw (clean (was-clean d), above d, ← (called .is-crowded .ensures), c .before .if3 .taken)))
 
 store-requires : tie.Need-store-requires
 store-requires c κs =
     let e = c .before .before in
-    (start-of (was-clean (was-above (e .before))) .pre .1, sym (e .before .is-crowded .ensures) ∙ e .if3 .left)
+    (start-of (was-clean (was-above (e .before))) .pre .1, rw (← (e .before .is-crowded .ensures)) (e .if3 .left))
 
 same-length-3 : tie.Need-same-length-3
 same-length-3 c = search needs
@@ -104,7 +104,7 @@ returns-4 c =
     let e = stored .before .before .before in
     let d = was-above (e .before) in
     addedBy-taken (before (start-of (was-clean d)))
-    (rw (clean (was-clean d), above d, sym (e .before .is-crowded .ensures) ∙ e .if3 .left))
+    (rw (clean (was-clean d), above d, ← (e .before .is-crowded .ensures), e .if3 .left))
     refl
     (stored .store .ensures)
 
