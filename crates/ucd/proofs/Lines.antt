@@ -13,7 +13,7 @@ use Rattle.terms.specs.Lists.{empty, there}
 use Rattle.terms.specs.Refusals.{partsMost}
 use Rattle.terms.proofs.Checks.{when-none}
 use Rattle.ucd.specs.Fields.{fields, field, cut, codePoint, codePoints, untagged, someParts, decomposition, titlecase}
-use Rattle.ucd.specs.Lines.{Properties, properties, lineProperties, readingChecks, readingRefusal}
+use Rattle.ucd.specs.Lines.{Properties, lineProperties, readingChecks, readingRefusal}
 use Rattle.ucd.proofs.Rows.{first-none}
 use Rattle.ucd.proofs.Listing.{optional-titlecase}
 
@@ -70,7 +70,7 @@ pub lineProperties-some : (line ps : List ℕ) (c t : ℕ)
     → codePoint (field 0 line) ≡ some c
     → decomposition (field 5 line) ≡ some ps
     → titlecase c (field 14 line) ≡ some t
-    → lineProperties line ≡ some (properties c t ps)
+    → lineProperties line ≡ some (record { code = c; title = t; parts = ps })
 unfolding lineProperties bind
 lineProperties-some line ps c t e f g = rw (e, f, g)
 
@@ -83,6 +83,6 @@ lineProperties-read line e =
     let listed = there-some (decomposition (field 5 line)) (not-false _ (when-none _ _ (passed 3))) in
     let cased = there-some (titlecase (code .0) (field 14 line))
     (sym (optional-titlecase (code .0) (field 14 line)) ∙ not-false _ (when-none _ _ (passed 4))) in (
-      properties (code .0) (cased .0) (listed .0),
+      record { code = code .0; title = cased .0; parts = listed .0 },
       lineProperties-some line (listed .0) (code .0) (cased .0) (code .1) (listed .1) (cased .1),
     )

@@ -44,11 +44,11 @@ abbrev read : tie.After-known-told → tie.After-read-line
 read g = g .before .before .before .before
 
 abbrev count : tie.After-known-told → ℕ
-count g = g .before .reading .given .0 .1 .1 .0
+count g = g .before .reading .given .0 .1 .0
 
 given : (g : tie.After-known-told)
     → LineRead (start-of (read g) .args .line .now) (out-of (read g))
-    (g .before .reading .given .0 .0) (g .before .reading .given .0 .1 .0) (count g)
+    (g .before .reading .given .0 .0) (count g)
 given g =
     subst (Reads (start-of (read g) .args .line .now) (out-of (read g)))
     (g .before .reading .given .1)
