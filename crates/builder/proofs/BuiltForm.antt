@@ -1,7 +1,7 @@
 -- The table of a sequence of lines is grown, and so passes checks 3 to 6: "A table grown from the fresh state (all zeros), with
 -- nothing altered between calls and the slices cut to what is used, passes checks 3 to 6."
 -- Assumes nothing.
-use mathlib.Core.Path.{_≡_, refl, sym, _∙_, ap, subst⁻¹}
+use mathlib.Core.Path.{_≡_, refl, ap, subst⁻¹}
 use Prim.Native.Nat.{ℕ}
 use native.Mathlib.Omega.{arith}
 use mathlib.Core.Bool.{Bool, true, false, cond, not}

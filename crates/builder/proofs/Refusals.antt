@@ -19,7 +19,7 @@ use Rattle.ucd.specs.Lines.{Properties, lineProperties, saysNothing, lineCheck,
 use Rattle.ucd.proofs.Rows.{first-append, first-none}
 use Rattle.ucd.proofs.Lines.{length-parts, lineProperties-read}
 use Rattle.builder.specs.Builder.{Built, overfull, impossible, surrogate, crowded, propertiesChecks, givenChecks, lineRefusal, unlessRefused, accepted}
-use Rattle.builder.specs.Promises.{Fits, NextFits}
+use Rattle.builder.specs.Promises.{Fits, NextFits, propertiesRefusal}
 
 -- numbers that are not too many have room
 pub overfull-fits : (used filled entries pool : ℕ) → overfull used filled entries pool ≡ false → Fits used filled entries pool
@@ -49,10 +49,22 @@ module _ (b : Built) (line : List ℕ) where
   lineRefusal-28 i = rw i
 
   -- a possible one: the reading, and then what the line gives
-  pub lineRefusal-possible : impossible (b .state) entries pool ≡ false
-      → lineRefusal b line ≡ orElse (readingRefusal line) (first (givenChecks (b .state) entries pool (lineProperties line)))
-  unfolding lineRefusal readingRefusal
-  lineRefusal-possible i = rw i (first-append (readingChecks line) (givenChecks (b .state) entries pool (lineProperties line)))
+  module _ (possible : impossible (b .state) entries pool ≡ false) where
+    lineRefusal-possible : lineRefusal b line
+        ≡ orElse (readingRefusal line) (first (givenChecks (b .state) entries pool (lineProperties line)))
+    unfolding lineRefusal readingRefusal
+    lineRefusal-possible =
+        rw possible (first-append (readingChecks line) (givenChecks (b .state) entries pool (lineProperties line)))
+
+    -- the reading is refused
+    pub lineRefusal-reading : {r : Refusal} → readingRefusal line ≡ some r → lineRefusal b line ≡ some r
+    lineRefusal-reading e = lineRefusal-possible ∙ rw e
+
+    -- it is not: what the line gives
+    pub lineRefusal-given : {p : Properties} → readingRefusal line ≡ none → lineProperties line ≡ some p
+        → lineRefusal b line ≡ propertiesRefusal b p
+    unfolding propertiesRefusal
+    lineRefusal-given e f = lineRefusal-possible ∙ rw (e, f)
 
   -- a line that is not refused: nor are its reading and what it gives
   lineRefusal-none : lineRefusal b line ≡ none

@@ -1,8 +1,8 @@
 -- `builder::checks::has_surrogate` meets its contract: at each return the tests that led there decide those of `surrogate`. The
--- loop's invariant: there is a surrogate if there is one among the parts that are left. The measure is what is left.
+-- loop's invariant: all parts are scalar if what is left are. The measure is what is left.
 -- Assumes nothing.
-use mathlib.Core.Path.{_≡_, sym, _∙_, ap}
-use mathlib.Core.Bool.{true, false, not, and-false}
+use mathlib.Core.Path.{_≡_, refl, sym, _∙_, ap}
+use mathlib.Core.Bool.{false, not, and-false}
 use Prim.Native.Nat.{_≤_, _-_}
 use native.Mathlib.Omega.{arith}
 use borrow.Author.Needs.{needs}
@@ -10,24 +10,43 @@ use borrow.Author.Tests.{not-true, not-false}
 use lib.ListN.{length, drop}
 use Rattle.terms.specs.CodePoints.{scalar}
 use Rattle.terms.specs.Lists.{all}
-use Rattle.ucd.specs.Lines.{properties, saysNothing}
+use Rattle.ucd.specs.Lines.{Properties, withParts, saysNothing}
 use Rattle.ucd.proofs.Walks.{all-more, all-fails, all-end}
 use Rattle.builder.specs.Builder.{surrogate}
 use Rattle.builder.proofs.checks.has_surrogate.Statement.{statement}
 use Rattle.builder.proofs.checks.has_surrogate.Tie as tie
 
 abbrev Inv-loop : tie.InvT-loop
-Inv-loop code title parts i₀ i =
-    (i ≤ length parts) × (surrogate (properties code title parts) ≡ not (all scalar (drop i parts)))
+Inv-loop parts i₀ i = (i ≤ length parts) × (all scalar parts ≡ all scalar (drop i parts))
 
 abbrev μ-loop : tie.MeasureT-loop
-μ-loop code title parts i₀ i = length parts - i
+μ-loop parts i₀ i = length parts - i
+
+-- at the entry: what the line gives
+abbrev given : tie.Start Inv-loop μ-loop → Properties
+given s = withParts (s .args .simple) (s .args .parts .now)
 
 -- where the line has a mapping
-maps : (c : tie.Else1 Inv-loop μ-loop)
-    → let a = c .before .before .before .args in
-    saysNothing (properties (a .code) (a .title) (a .parts .now)) ≡ false
+abbrev start-of : tie.Else1 Inv-loop μ-loop → tie.Start Inv-loop μ-loop
+start-of c = c .before .before .before
+
+maps : (c : tie.Else1 Inv-loop μ-loop) → saysNothing (given (start-of c)) ≡ false
 maps c = sym (c .before .says-nothing .ensures) ∙ c .if1 .left
+
+-- where its code point and its titlecase are scalar: the parts decide
+abbrev mapped : tie.Else3 Inv-loop μ-loop → tie.Else1 Inv-loop μ-loop
+mapped c = c .before .before .before .before
+
+decide : (c : tie.Else3 Inv-loop μ-loop)
+    → let p = given (start-of (mapped c)) in
+    surrogate p ≡ not (all scalar (p .parts))
+decide c =
+    let code = c .before .before in
+    simp (
+      maps (mapped c),
+      sym (code .before .is-scalar .ensures) ∙ not-false _ (code .if2 .left),
+      sym (c .before .is-scalar2 .ensures) ∙ not-false _ (c .if3 .left),
+    )
 
 says-nothing-requires : tie.Need-says-nothing-requires Inv-loop μ-loop
 says-nothing-requires c κs = search needs
@@ -55,17 +74,8 @@ returns-3 c =
       and-false,
     )
 
--- neither of them
 loop-holds : tie.Need-loop-holds Inv-loop μ-loop
-loop-holds c =
-    let code = c .before .before in (
-      search needs,
-      simp (
-        maps (code .before .before),
-        sym (code .before .is-scalar .ensures) ∙ not-false _ (code .if2 .left),
-        sym (c .before .is-scalar2 .ensures) ∙ not-false _ (c .if3 .left),
-      ),
-    )
+loop-holds c = (search needs, refl)
 
 mul-is-scalar : tie.Need-mul-is-scalar Inv-loop μ-loop
 mul-is-scalar c = search needs
@@ -81,7 +91,8 @@ returns-4 : tie.Need-returns-4 Inv-loop μ-loop
 returns-4 c =
     let inside = c .before .before .before in
     let here = sym (c .before .is-scalar3 .ensures) ∙ not-true _ (c .if4 .taken) in
-    sym (inside .before .loop .inv .1 ∙ ap not (all-fails scalar _ _ (inside .loop-test .taken) here))
+    let l = inside .before in
+    sym (decide (l .before) ∙ ap not (l .loop .inv .1 ∙ all-fails scalar _ _ (inside .loop-test .taken) here))
 
 add-i : tie.Need-add-i Inv-loop μ-loop
 add-i c = omega arith
@@ -94,11 +105,13 @@ loop-again : tie.Need-loop-again Inv-loop μ-loop
 loop-again c =
     let inside = c .before .before .before in
     let here = sym (c .before .is-scalar3 .ensures) ∙ not-false _ (c .if4 .left) in
-    (omega arith, inside .before .loop .inv .1 ∙ ap not (all-more scalar _ _ (inside .loop-test .taken) here))
+    (omega arith, inside .before .loop .inv .1 ∙ all-more scalar _ _ (inside .loop-test .taken) here)
 
 -- no part
 returns-5 : tie.Need-returns-5 Inv-loop μ-loop
-returns-5 c = sym (c .before .loop .inv .1 ∙ ap not (all-end scalar _ _ (c .loop-test .left)))
+returns-5 c =
+    let l = c .before in
+    sym (decide (l .before) ∙ ap not (l .loop .inv .1 ∙ all-end scalar _ _ (c .loop-test .left)))
 
 pub has-surrogate-spec : {M : Type 1} → statement M
 has-surrogate-spec =
