@@ -10,7 +10,7 @@
  * anything that is aligned and not NULL where the number is 0. Slices that are written (keys; entries and pool of mz_add_line; the
  * answer) must overlap no other argument; those that are only read may overlap each other.
  *
- * TABLE. entries holds MZ_ENTRY_NUMBERS numbers for each entry: code point, titlecase (the code point itself if none), start of its
+ * TABLE. entries holds MZ_ENTRY_WIDTH numbers for each entry: code point, titlecase (the code point itself if none), start of its
  * decomposition in the pool, number of code points there. Entries ascend by code point; a start is the sum of all earlier counts.
  * mz_add_line builds such a table from the lines of UnicodeData.txt; mz_check_table says whether one is accepted. Two empty slices
  * are an accepted table, in which every code point maps to itself.
@@ -47,7 +47,7 @@ extern "C" {
 /* Limits. */
 #define MZ_TEXT_MOST 4096         /* octets of a text */
 #define MZ_ENTRIES_MOST 16384     /* entries of a table */
-#define MZ_ENTRY_NUMBERS 4        /* numbers of an entry */
+#define MZ_ENTRY_WIDTH 4          /* numbers of an entry */
 #define MZ_POOL_MOST 65536        /* numbers of a pool */
 #define MZ_LINE_MOST 512          /* octets of a line of UnicodeData.txt */
 #define MZ_KEY_PER_OCTET_MOST 128 /* octets of a key for each octet of its text */
@@ -130,7 +130,7 @@ void mz_substring(uint32_t collation,
                   uint64_t answer[8]);
 
 /* Adds one line of UnicodeData.txt, without its line end, to a table that is being built. The state is three numbers, all 0 at
- * first: entries used, pool numbers used, and one more than the last code point. The table so far is the first 4 * entries_used
+ * first: entries used, pool numbers used, and one more than the last code point. The table so far is the first MZ_ENTRY_WIDTH * entries_used
  * numbers of entries and the first pool_used numbers of pool. A line with a mapping appends one entry and its parts; any other
  * line only moves the third number.
  * answer: number, place (0), detail (0); the state afterwards: entries used, pool used, next. ON A REFUSAL THE LAST THREE ARE THE STATE
