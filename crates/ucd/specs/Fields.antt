@@ -6,7 +6,7 @@ use mathlib.Core.Option.{Option, none, some}
 use mathlib.Core.List.{List, [], _∷_}
 use lib.Dec.{leb, eqb}
 use lib.ListN.{length, getD, take, drop}
-use Rattle.terms.specs.Lists.{all, empty, when}
+use Rattle.terms.specs.Lists.{all, empty, there, when}
 use Rattle.terms.specs.Refusals.{partsMost}
 
 -- ---- cutting
@@ -97,7 +97,12 @@ someParts ps = cond (leb 1 (length ps) && leb (length ps) partsMost) (codePoints
 unfoldable pub decomposition : List ℕ → Option (List ℕ)
 decomposition os = cond (empty os) (some []) (someParts (untagged (cut 0x20 os)))
 
--- ---- field 14: "an empty field 14 means no titlecase", which is the code point itself
+-- ---- field 14: "an empty field 14 means no titlecase"
 
+-- a field that may be empty is well formed: it is empty, or writes a code point
+abbrev pub optional : List ℕ → Bool
+optional os = empty os || there (codePoint os)
+
+-- the titlecase that field 14 gives a code point, itself if it is empty
 unfoldable pub titlecase : ℕ → List ℕ → Option ℕ
 titlecase c os = cond (empty os) (some c) (codePoint os)

@@ -1,4 +1,3 @@
 pub mod Fields
-pub mod Builder
+pub mod Lines
 pub mod Promises
-pub mod Built

@@ -1,48 +1,47 @@
-// Lines of UnicodeData.txt to entries and pool (document 01, "Lines of UnicodeData.txt"; UAX #44 for the fields).
+// Lines of UnicodeData.txt (document 01, "Lines of UnicodeData.txt"; UAX #44 for the fields): the properties that a line gives its
+// code point, or the first of the refusals 20 to 24.
 //
-// The definitions stand in specs/. No public function has a `requires`: any state, any octets and any slices get an answer, and
-// nothing is written unless the line is not refused.
-mod checks;
+// The definitions stand in specs/. Any octets get an answer.
 mod fields;
 mod numbers;
 mod parts;
-mod reading;
-mod storing;
 
-use crate::reading::Reading;
-use terms::Refusal;
-ghost use Rattle.ucd.specs.Builder.{Added};
-ghost use Rattle.ucd.specs.Promises.{built};
+use crate::numbers::Number;
+use crate::parts::Parts;
+ghost use Prim.Native.Nat.{_≤_};
+ghost use lib.ListN.{length};
+ghost use Rattle.terms.specs.Refusals.{partsMost};
+ghost use Rattle.ucd.specs.Promises.{Reads};
 
-// The builder's state: entries used, pool numbers used, and one more than the last code point, or 0. All zeros is fresh.
-pub struct LineState {
-    pub entries_used: usize,
-    pub pool_used: usize,
-    pub next: usize,
+// What a line gives, or the number of its refusal.
+pub enum Reading {
+    // The code point, its titlecase, and how many parts it has; the parts stand at the front of a slice.
+    Read { code: u32, title: u32, count: usize },
+    Refused(u32),
 }
 
-// What becomes of a line, with the state afterwards: on a refusal the state that came in.
-pub enum Line {
-    Taken(LineState),
-    Refused(Refusal, LineState),
-}
-
-// Adds one line, without its line end: one entry and its parts, or only the last code point, or nothing on a refusal.
-pub fn add_line(state: LineState, line: &[u8], entries: &mut [u32], pool: &mut [u32]) -> Line
-    ensures { λ r. ⌜ Added (built state (now (entries .entry)) (now (pool .entry))) (now (line .entry))
-        r (now (entries .exit)) (now (pool .exit)) ⌝ }
+// Reads a line; the parts are written to a slice.
+pub fn read_line(line: &[u8], parts: &mut [u32]) -> Reading
+    requires { ⌜ partsMost ≤ length (now parts) ⌝ }
+    ensures { λ r. ⌜ Reads (now (line .entry)) (now (parts .exit)) r ⌝ }
 {
-    let mut parts = [0u32; terms::PARTS_MOST];
-    let reading = checks::judge(state, line, entries.len(), pool.len(), &mut parts);
-    match reading {
-        Reading::Refused(number) => Line::Refused(
-            Refusal {
-                number,
-                place: 0,
-                detail: 0,
-            },
-            state,
-        ),
-        Reading::Says(s) => Line::Taken(storing::build(state, s, &parts, entries, pool)),
+    if terms::LINE_MOST < line.len() {
+        return Reading::Refused(terms::REFUSED_LINE_LENGTH);
     }
+    if fields::count_fields(line) != 15 {
+        return Reading::Refused(terms::REFUSED_FIELD_COUNT);
+    }
+    let read = numbers::read_code_point(fields::find_field(line, 0));
+    let Number::Value(code) = read else {
+        return Reading::Refused(terms::REFUSED_FIELD_0);
+    };
+    let listed = parts::read_parts(fields::find_field(line, 5), parts);
+    let Parts::Count(count) = listed else {
+        return Reading::Refused(terms::REFUSED_FIELD_5);
+    };
+    let cased = numbers::read_titlecase(code, fields::find_field(line, 14));
+    let Number::Value(title) = cased else {
+        return Reading::Refused(terms::REFUSED_FIELD_14);
+    };
+    Reading::Read { code, title, count }
 }

@@ -1,0 +1,113 @@
+-- Lines by computation: what the builder answers to them, from a fresh state with room for two entries and four pool numbers.
+-- Assumes nothing.
+use mathlib.Core.Path.{_≡_, refl}
+use mathlib.Core.Option.{bind}
+use mathlib.Core.List.{List, [], _∷_, _++_, map}
+use Prim.Native.Nat.{ℕ}
+use lib.ListN.{replicate}
+use Rattle.terms.specs.Refusals.{Outcome, refused, gives, refusal}
+use Rattle.table.specs.Layout.{entry, entryNumbers, entryCount, putEntry}
+use Rattle.table.specs.Table.{table}
+use Rattle.ucd.specs.Fields.{cut, digits, codePoint, codePoints, decomposition, titlecase}
+use Rattle.ucd.specs.Lines.{lineProperties}
+use Rattle.builder.specs.Builder.{Built, built, fresh, lineRefusal, addLine, addLines, lineAnswer}
+
+-- the fresh state, with room
+abbrev start : Built
+start = built fresh (replicate 8 0) (replicate 4 0)
+
+-- a line with its fields 0, 5 and 14, and the others empty
+abbrev lineOf : List ℕ → List ℕ → List ℕ → List ℕ
+lineOf code parts title = code ++ replicate 5 0x3B ++ parts ++ replicate 9 0x3B ++ title
+
+-- 0061, titlecase 0041, no parts
+abbrev small-a : List ℕ
+small-a =
+    lineOf
+    (0x30 ∷ 0x30 ∷ 0x36 ∷ 0x31 ∷ [])
+    []
+    (0x30 ∷ 0x30 ∷ 0x34 ∷ 0x31 ∷ [])
+
+-- 00E9, titlecase 00C9, parts 0065 and 0301
+abbrev e-acute : List ℕ
+e-acute =
+    lineOf
+    (0x30 ∷ 0x30 ∷ 0x45 ∷ 0x39 ∷ [])
+    (0x30 ∷ 0x30 ∷ 0x36 ∷ 0x35 ∷ 0x20 ∷ 0x30 ∷ 0x33 ∷ 0x30 ∷ 0x31 ∷ [])
+    (0x30 ∷ 0x30 ∷ 0x43 ∷ 0x39 ∷ [])
+
+-- FB01, no titlecase, the tag <compat>, parts 0066 and 0069
+abbrev ligature : List ℕ
+ligature =
+    lineOf
+    (0x46 ∷ 0x42 ∷ 0x30 ∷ 0x31 ∷ [])
+    (0x3C ∷ 0x63 ∷ 0x6F ∷ 0x6D ∷ 0x70 ∷ 0x61 ∷ 0x74 ∷ 0x3E ∷ 0x20 ∷ 0x30 ∷ 0x30 ∷ 0x36 ∷ 0x36 ∷ 0x20 ∷ 0x30 ∷ 0x30 ∷ 0x36 ∷ 0x39 ∷ [])
+    []
+
+-- D800, no titlecase, no parts
+abbrev surrogate : List ℕ
+surrogate =
+    lineOf
+    (0x44 ∷ 0x38 ∷ 0x30 ∷ 0x30 ∷ [])
+    []
+    []
+
+-- D800, titlecase 0041
+abbrev surrogate-mapped : List ℕ
+surrogate-mapped =
+    lineOf
+    (0x44 ∷ 0x38 ∷ 0x30 ∷ 0x30 ∷ [])
+    []
+    (0x30 ∷ 0x30 ∷ 0x34 ∷ 0x31 ∷ [])
+
+-- FB01, the tag <a> with nothing after it
+abbrev tag-alone : List ℕ
+tag-alone =
+    lineOf
+    (0x46 ∷ 0x42 ∷ 0x30 ∷ 0x31 ∷ [])
+    (0x3C ∷ 0x61 ∷ 0x3E ∷ [])
+    []
+
+-- 00061
+abbrev leading-zero : List ℕ
+leading-zero =
+    lineOf
+    (0x30 ∷ 0x30 ∷ 0x30 ∷ 0x36 ∷ 0x31 ∷ [])
+    []
+    (0x30 ∷ 0x30 ∷ 0x34 ∷ 0x31 ∷ [])
+
+-- ---- answers
+
+-- a line and what the builder answers to it
+abbrev rows : List (List ℕ × Outcome)
+rows =
+    -- a titlecase alone: one entry
+    (small-a, gives (1 ∷ 0 ∷ 0x62 ∷ []))
+    -- parts: one entry, two pool numbers
+    ∷ (e-acute, gives (1 ∷ 2 ∷ 0xEA ∷ []))
+    -- a line that says nothing only moves the last code point, that of a surrogate too
+    ∷ (surrogate, gives (0 ∷ 0 ∷ 0xD801 ∷ []))
+    -- a surrogate with a mapping
+    ∷ (surrogate-mapped, refused (refusal 25 0 0))
+    -- a tag with no code point after it
+    ∷ (tag-alone, refused (refusal 23 0 0))
+    -- a leading zero past four digits
+    ∷ (leading-zero, refused (refusal 22 0 0))
+    ∷ []
+
+pub answers : map (λ r. lineAnswer start (r .0)) rows ≡ map (λ r. r .1) rows
+unfolding addLine lineRefusal lineProperties bind entryCount putEntry cut digits codePoint codePoints decomposition titlecase
+answers = refl
+
+-- a code point below the last
+pub answer-26 : lineAnswer (addLine start e-acute) small-a ≡ refused (refusal 26 0 0)
+unfolding addLine lineRefusal lineProperties bind entryCount putEntry cut digits codePoint codePoints decomposition titlecase
+answer-26 = refl
+
+-- two lines: each start is the sum of the counts before it, and the parts stand one after another
+pub two-lines : addLines start (e-acute ∷ ligature ∷ []) .table
+    ≡ table
+    (entryNumbers (entry 0xE9 0xC9 0 2) ++ entryNumbers (entry 0xFB01 0xFB01 2 2))
+    (0x65 ∷ 0x301 ∷ 0x66 ∷ 0x69 ∷ [])
+unfolding addLines addLine lineRefusal lineProperties bind entryCount putEntry cut digits codePoint codePoints decomposition titlecase
+two-lines = refl

@@ -1,0 +1,100 @@
+-- The row of a line's checks in its three parts, and what is known where a check of it doesn't apply.
+-- Assumes nothing.
+use mathlib.Core.Path.{_≡_, sym, _∙_}
+use Prim.Native.Nat.{ℕ, _≤_}
+use mathlib.Core.Bool.{true, false, _&&_, _||_}
+use mathlib.Core.Option.{none, some}
+use mathlib.Core.List.{List, _++_}
+use lib.Dec.{ltb}
+use lib.ListN.{length}
+use borrow.Author.Tests.{ltb-false, not-false}
+use Rattle.terms.specs.CodePoints.{scalar}
+use Rattle.terms.specs.Lists.{all, orElse}
+use Rattle.terms.specs.Refusals.{entriesMost, poolMost, first, refusal}
+use Rattle.terms.proofs.Checks.{or-left, or-right, orElse-neither, when-none}
+use Rattle.terms.proofs.Tests.{both}
+use Rattle.table.specs.Layout.{entryCount}
+use Rattle.ucd.specs.Lines.{Properties, lineProperties, saysNothing, lineCheck, readingChecks, readingRefusal}
+use Rattle.ucd.proofs.Rows.{first-append, first-none}
+use Rattle.ucd.proofs.Lines.{lineProperties-read}
+use Rattle.builder.specs.Builder.{Built, overfull, impossible, surrogate, crowded, propertiesChecks, givenChecks, lineRefusal}
+use Rattle.builder.specs.Promises.{Fits, NextFits}
+
+-- numbers that are not too many have room
+pub overfull-fits : (used filled entries pool : ℕ) → overfull used filled entries pool ≡ false → Fits used filled entries pool
+overfull-fits used filled entries pool e =
+    let a = ltb entries used in
+    let b = ltb entriesMost used in
+    let c = ltb pool filled in
+    let p : a || b || c ≡ false = or-left (a || b || c) (ltb poolMost filled) e in
+    let q : a || b ≡ false = or-left (a || b) c p in
+    record {
+      entries-held = ltb-false entries used (or-left a b q);
+      entries-limit = ltb-false entriesMost used (or-right a b q);
+      pool-held = ltb-false pool filled (or-right (a || b) c p);
+      pool-limit = ltb-false poolMost filled (or-right (a || b || c) (ltb poolMost filled) e);
+    }
+
+module _ (b : Built) (line : List ℕ) where
+  abbrev entries : ℕ
+  entries = entryCount (b .table .entries)
+
+  abbrev pool : ℕ
+  pool = length (b .table .pool)
+
+  -- an impossible state
+  pub lineRefusal-28 : impossible (b .state) entries pool ≡ true → lineRefusal b line ≡ some (refusal 28 0 0)
+  unfolding lineRefusal
+  lineRefusal-28 i = rw i
+
+  -- a possible one: the reading, and then what the line gives
+  pub lineRefusal-possible : impossible (b .state) entries pool ≡ false
+      → lineRefusal b line ≡ orElse (readingRefusal line) (first (givenChecks (b .state) entries pool (lineProperties line)))
+  unfolding lineRefusal readingRefusal
+  lineRefusal-possible i = rw i (first-append (readingChecks line) (givenChecks (b .state) entries pool (lineProperties line)))
+
+  -- a line that is not refused: nor are its reading and what it gives
+  pub lineRefusal-none : lineRefusal b line ≡ none
+      → (readingRefusal line ≡ none) × (first (givenChecks (b .state) entries pool (lineProperties line)) ≡ none)
+  unfolding lineRefusal readingRefusal
+  lineRefusal-none e =
+      let given = givenChecks (b .state) entries pool (lineProperties line) in
+      let rest = orElse-neither (lineCheck (impossible (b .state) entries pool) 28) (first (readingChecks line ++ given)) e .1 in
+      orElse-neither (first (readingChecks line)) (first given) (sym (first-append (readingChecks line) given) ∙ rest)
+
+  -- so a line that is not refused gives something
+  pub unrefused-given : lineRefusal b line ≡ none → (p : Properties) × (lineProperties line ≡ some p)
+  unrefused-given e = lineProperties-read line (lineRefusal-none e .0)
+
+-- ---- what none of 25 to 27 refuses
+
+-- the numbers of properties are scalar
+pub record Scalar (p : Properties) : Type 0 where
+  pub code : scalar (p .code) ≡ true
+  pub title : scalar (p .title) ≡ true
+  pub parts : all scalar (p .parts) ≡ true
+
+scalars : (p : Properties) → saysNothing p ≡ false → surrogate p ≡ false → Scalar p
+scalars p m e =
+    let t : scalar (p .code) && scalar (p .title) && all scalar (p .parts) ≡ true = not-false _ (rw m at e) in
+    let r = both (scalar (p .code) && scalar (p .title)) (all scalar (p .parts)) t in
+    let q = both (scalar (p .code)) (scalar (p .title)) (r .0) in
+    record { code = q .0; title = q .1; parts = r .1 }
+
+-- they stand above the last line, and with a mapping they are scalar and have room
+pub record Passes (b : Built) (p : Properties) : Type 0 where
+  pub next : b .state .next ≤ p .code
+  pub scalar : saysNothing p ≡ false → Scalar p
+  pub room : saysNothing p ≡ false → NextFits b p
+
+pub passes : (b : Built) (line : List ℕ) (p : Properties) → lineRefusal b line ≡ none → lineProperties line ≡ some p → Passes b p
+passes b line p e f =
+    let st = b .state in
+    let held = entryCount (b .table .entries) in
+    let pool = length (b .table .pool) in
+    let passed = first-none (propertiesChecks st held pool p) (rw f at (lineRefusal-none b line e .1)) in
+    record {
+      next = ltb-false (p .code) (st .next) (when-none _ _ (passed 1));
+      scalar = λ m. scalars p m (when-none _ _ (passed 0));
+      room = λ m. overfull-fits _ _ held pool (rw m at (when-none (crowded st held pool p) _ (passed 2)));
+    }

@@ -1,0 +1,3 @@
+pub mod Builder
+pub mod Promises
+pub mod Built

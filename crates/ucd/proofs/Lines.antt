@@ -1,0 +1,89 @@
+-- What a line gives: there is something where no check of its reading applies, and it has at most 32 parts.
+-- Assumes nothing.
+use mathlib.Core.Path.{_≡_, refl, sym, _∙_, ap}
+use mathlib.Core.Bool.{Bool, true, false, cond, _&&_}
+use mathlib.Core.Option.{Option, none, some, bind, bind-eq-some-iff, map-eq-some-iff}
+use mathlib.Core.List.{List, [], _∷_}
+use Prim.Native.Nat.{ℕ, suc, _≤_}
+use native.Mathlib.Omega.{arith}
+use lib.Dec.{leb}
+use lib.ListN.{length}
+use borrow.Author.Tests.{leb-true, not-false}
+use Rattle.terms.specs.Lists.{empty, there}
+use Rattle.terms.specs.Refusals.{partsMost}
+use Rattle.terms.proofs.Checks.{when-none}
+use Rattle.ucd.specs.Fields.{field, cut, codePoint, andOne, codePoints, untagged, someParts, decomposition, titlecase}
+use Rattle.ucd.specs.Lines.{Properties, properties, lineProperties, readingChecks, readingRefusal}
+use Rattle.ucd.proofs.Rows.{first-none}
+use Rattle.ucd.proofs.Listing.{optional-titlecase}
+
+-- ---- at most 32 parts
+
+-- as many code points as pieces
+length-andOne : (o : Option ℕ) (rest : Option (List ℕ)) (n : ℕ)
+    → ((cs : List ℕ) → rest ≡ some cs → length cs ≡ n)
+    → (cs : List ℕ) → andOne o rest ≡ some cs → length cs ≡ suc n
+length-andOne none rest n h cs e = cc
+length-andOne (some c) none n h cs e = cc
+length-andOne (some c) (some ds) n h cs e =
+    let same : c ∷ ds ≡ cs = cc in
+    sym (ap length same) ∙ ap suc (h ds refl)
+
+length-codePoints : (ps : List (List ℕ)) (cs : List ℕ) → codePoints ps ≡ some cs → length cs ≡ length ps
+unfolding codePoints
+length-codePoints [] cs e = let same : [] ≡ cs = cc in sym (ap length same)
+length-codePoints (p ∷ ps) cs e =
+    length-andOne (codePoint p) (codePoints ps) (length ps) (length-codePoints ps) cs e
+
+length-someParts : (ps : List (List ℕ)) (cs : List ℕ) → someParts ps ≡ some cs → length cs ≤ partsMost
+length-someParts ps cs = go (leb 1 (length ps)) (leb (length ps) partsMost) refl
+  where
+    go : (a b : Bool) → leb (length ps) partsMost ≡ b → cond (a && b) (codePoints ps) none ≡ some cs → length cs ≤ partsMost
+    go true true e f = omega (arith, leb-true (length ps) partsMost e, length-codePoints ps cs f)
+    go true false e f = let z : _≡_ {A = ℕ} 0 1 = cc in absurd (omega arith)
+    go false b e f = let z : _≡_ {A = ℕ} 0 1 = cc in absurd (omega arith)
+
+length-decomposition : (os cs : List ℕ) → decomposition os ≡ some cs → length cs ≤ partsMost
+unfolding decomposition
+length-decomposition os cs = go (empty os)
+  where
+    go : (b : Bool) → cond b (some []) (someParts (untagged (cut 0x20 os))) ≡ some cs → length cs ≤ partsMost
+    go true e = let same : [] ≡ cs = cc in omega (arith, ap length same)
+    go false e = length-someParts (untagged (cut 0x20 os)) cs e
+
+-- a line gives at most 32 parts
+pub length-parts : (line : List ℕ) (p : Properties) → lineProperties line ≡ some p → length (p .parts) ≤ partsMost
+unfolding lineProperties
+length-parts line p e =
+    let code = bind-eq-some-iff (codePoint (field 0 line)) _ .0 e in
+    let listed = bind-eq-some-iff (decomposition (field 5 line)) _ .0 (code .2) in
+    let cased = map-eq-some-iff _ (titlecase (code .0) (field 14 line)) .0 (listed .2) in
+    omega (arith, length-decomposition (field 5 line) (listed .0) (listed .1), ap (λ (q : Properties). length (q .parts)) (cased .2))
+
+-- ---- something is given
+
+there-some : {A : Type 0} (o : Option A) → there o ≡ true → (a : A) × (o ≡ some a)
+there-some none e = let z : _≡_ {A = ℕ} 0 1 = cc in absurd (omega arith)
+there-some (some a) e = (a, refl)
+
+-- a line of which each field is well formed gives what they say
+pub lineProperties-some : (line ps : List ℕ) (c t : ℕ)
+    → codePoint (field 0 line) ≡ some c
+    → decomposition (field 5 line) ≡ some ps
+    → titlecase c (field 14 line) ≡ some t
+    → lineProperties line ≡ some (properties c t ps)
+unfolding lineProperties bind
+lineProperties-some line ps c t e f g = rw (e, f, g)
+
+-- a line whose reading is not refused gives something
+pub lineProperties-read : (line : List ℕ) → readingRefusal line ≡ none → (p : Properties) × (lineProperties line ≡ some p)
+unfolding readingRefusal
+lineProperties-read line e =
+    let passed = first-none (readingChecks line) e in
+    let code = there-some (codePoint (field 0 line)) (not-false _ (when-none _ _ (passed 2))) in
+    let listed = there-some (decomposition (field 5 line)) (not-false _ (when-none _ _ (passed 3))) in
+    let cased = there-some (titlecase (code .0) (field 14 line))
+    (sym (optional-titlecase (code .0) (field 14 line)) ∙ not-false _ (when-none _ _ (passed 4))) in (
+      properties (code .0) (cased .0) (listed .0),
+      lineProperties-some line (listed .0) (code .0) (cased .0) (code .1) (listed .1) (cased .1),
+    )

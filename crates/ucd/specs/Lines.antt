@@ -1,0 +1,54 @@
+-- A line of UnicodeData.txt: the properties that it gives its code point, and the checks of its reading (20 to 24).
+-- Assumes nothing.
+use Prim.Native.Nat.{ℕ}
+use mathlib.Core.Bool.{Bool, _&&_, not}
+use mathlib.Core.Option.{Option, Option·map, bind}
+use mathlib.Core.List.{List, [], _∷_}
+use lib.Dec.{ltb, eqb}
+use lib.ListN.{length}
+use Rattle.terms.specs.Lists.{there}
+use Rattle.terms.specs.Refusals.{lineMost, check, first}
+use Rattle.terms.specs.declared.Refusal.{Refusal}
+use Rattle.ucd.specs.Fields.{fields, field, codePoint, decomposition, optional, titlecase}
+
+-- ---- what a line gives
+
+-- a code point, its "titlecase (the code point itself if none)", and its decomposition, of no parts if it has none
+pub record Properties : Type 0 where
+  pub code : ℕ
+  pub title : ℕ
+  pub parts : List ℕ
+
+-- the same by their values
+abbrev pub properties : ℕ → ℕ → List ℕ → Properties
+properties code title parts = record { code = code; title = title; parts = parts }
+
+-- "Field 0 is the code point, 5 the decomposition, 14 the titlecase"; nothing where one of them is malformed
+unfoldable pub lineProperties : List ℕ → Option Properties
+lineProperties line =
+    bind (codePoint (field 0 line))
+    (λ c. bind (decomposition (field 5 line)) (λ ps. Option·map (λ t. properties c t ps) (titlecase c (field 14 line))))
+
+-- "Lines that say nothing (no parts, titlecase none or itself ..)"
+abbrev pub saysNothing : Properties → Bool
+saysNothing p = eqb (p .title) (p .code) && eqb (length (p .parts)) 0
+
+-- ---- the checks of the reading, which look at the line alone
+
+-- a check of a line: "place and detail are 0"
+abbrev pub lineCheck : Bool → ℕ → Option Refusal
+lineCheck applies n = check applies n 0 0
+
+-- "20 line over 512 octets; 21 not exactly 14 semicolons; 22, 23, 24 field 0, 5, 14 malformed"
+abbrev pub readingChecks : List ℕ → List (Option Refusal)
+readingChecks line =
+    lineCheck (ltb lineMost (length line)) 20
+    ∷ lineCheck (not (eqb (length (fields line)) 15)) 21
+    ∷ lineCheck (not (there (codePoint (field 0 line)))) 22
+    ∷ lineCheck (not (there (decomposition (field 5 line)))) 23
+    ∷ lineCheck (not (optional (field 14 line))) 24
+    ∷ []
+
+-- the first of them that applies
+unfoldable pub readingRefusal : List ℕ → Option Refusal
+readingRefusal line = first (readingChecks line)
