@@ -1,10 +1,10 @@
--- `mundeziwa::tables::mz_check_table` meets its contract: the row of what `check_table` answers.
+-- `mz_tables::mz_check_table` meets its contract: the row of what `check_table` answers.
 -- Assumes nothing.
 use mathlib.Core.Path.{ap, _∙_}
 use borrow.Author.Needs.{needs}
 use Rattle.terms.specs.Refusals.{row}
-use Rattle.mundeziwa.proofs.tables.mz_check_table.Statement.{statement}
-use Rattle.mundeziwa.proofs.tables.mz_check_table.Tie as tie
+use Rattle.mz_tables.proofs.mz_check_table.Statement.{statement}
+use Rattle.mz_tables.proofs.mz_check_table.Tie as tie
 
 check-table-requires : tie.Need-check-table-requires
 check-table-requires c κs = search needs

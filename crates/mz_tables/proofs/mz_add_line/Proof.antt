@@ -1,9 +1,10 @@
--- `mundeziwa::tables::mz_add_line` meets its contract: the row of what `add_line` answers, with the state that comes back.
+-- `mz_tables::mz_add_line` meets its contract: the row of what `add_line` answers, with the state that comes back.
 -- Assumes nothing.
-use mathlib.Core.Path.{_∙_}
+use mathlib.Core.Path.{ap, _∙_}
 use borrow.Author.Needs.{needs}
-use Rattle.mundeziwa.proofs.tables.mz_add_line.Statement.{statement}
-use Rattle.mundeziwa.proofs.tables.mz_add_line.Tie as tie
+use Rattle.builder.specs.Builder.{Built}
+use Rattle.mz_tables.proofs.mz_add_line.Statement.{statement}
+use Rattle.mz_tables.proofs.mz_add_line.Tie as tie
 
 add-line-requires : tie.Need-add-line-requires
 add-line-requires c κs = search needs
@@ -22,9 +23,8 @@ returns : tie.Need-returns
 returns c =
     let added = c .before .before .before .before .before .add-line .ensures in
     record {
-      answered = c .line-row .ensures ∙ (rw (added .answered, added .state));
-      entriesLeft = added .entries;
-      poolLeft = added .pool;
+      answered = c .line-row .ensures ∙ (rw (added .answered, ap Built.state (added .left)));
+      left = ap Built.table (added .left);
     }
 
 pub mz-add-line-spec : {M : Type 1} → statement M

@@ -1,12 +1,12 @@
--- `mundeziwa::rows::line_row` meets its contract: each variant is a case of `lineOutcome` and of `stateAfter`.
+-- `mz_tables::rows::line_row` meets its contract: each variant is a case of `lineOutcome` and of `stateAfter`.
 -- Assumes nothing.
 use mathlib.Core.Path.{sym, ap}
 use borrow.Author.Needs.{needs}
-use Rattle.ucd.specs.Builder.{lineOutcome, stateAfter}
-use Rattle.ucd.specs.declared.Line.{Line}
-use Rattle.mundeziwa.specs.Promises.{lineRow}
-use Rattle.mundeziwa.proofs.rows.line_row.Statement.{statement}
-use Rattle.mundeziwa.proofs.rows.line_row.Tie as tie
+use Rattle.builder.specs.Builder.{lineOutcome, stateAfter}
+use Rattle.builder.specs.declared.Line.{Line}
+use Rattle.mz_tables.specs.Promises.{lineRow}
+use Rattle.mz_tables.proofs.rows.line_row.Statement.{statement}
+use Rattle.mz_tables.proofs.rows.line_row.Tie as tie
 
 enum-known-line : tie.Need-enum-known-line
 enum-known-line c = search needs

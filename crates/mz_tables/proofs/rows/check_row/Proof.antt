@@ -1,11 +1,10 @@
--- `mundeziwa::rows::check_row` meets its contract: each variant is a case of `checkOutcome`.
+-- `mz_tables::rows::check_row` meets its contract: each variant is a case of `checkOutcome`.
 -- Assumes nothing.
 use mathlib.Core.Path.{sym, ap}
 use borrow.Author.Needs.{needs}
-use Rattle.terms.specs.Refusals.{row}
-use Rattle.table.specs.Promises.{checkOutcome}
-use Rattle.mundeziwa.proofs.rows.check_row.Statement.{statement}
-use Rattle.mundeziwa.proofs.rows.check_row.Tie as tie
+use Rattle.terms.specs.Refusals.{row, checkOutcome}
+use Rattle.mz_tables.proofs.rows.check_row.Statement.{statement}
+use Rattle.mz_tables.proofs.rows.check_row.Tie as tie
 
 enum-told : tie.Need-enum-told
 enum-told c = search needs
