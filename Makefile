@@ -1,6 +1,6 @@
 # make test: prove every crate, try every must-fail edit, run every program and test. Its last line is `N passed, 0 failed`
 # when all is well, and never otherwise.
-# make lib: prove the library, and leave it for C and Rust in build/lib.
+# make lib: prove the crates of the C interface, and leave them as one library for C and Rust in build/lib.
 # make pairs: prove and build the program `pairs`, and run it on the sample.
 # make bench: names and the search beside other programs, in one run.
 .PHONY: test lib pairs bench
@@ -11,10 +11,9 @@ test:
 lib:
 	@mkdir -p build/lib
 	@echo 'proving and building the library (a few minutes the first time; build/lib.log says more)'
-	@rt staticlib mundeziwa > build/lib.log 2>&1 || { tail -n 20 build/lib.log; exit 1; }
-	@cp target/staticlib/libmundeziwa.a build/lib/
-	@cc -shared -o build/lib/libmundeziwa.so -Wl,--whole-archive build/lib/libmundeziwa.a -Wl,--no-whole-archive
-	@echo 'build/lib/libmundeziwa.a and build/lib/libmundeziwa.so; the header is include/mundeziwa.h, the Rust crate bindings/rust'
+	@rt staticlib mz_tables > build/lib.log 2>&1 && rt staticlib mz_texts >> build/lib.log 2>&1 || { tail -n 20 build/lib.log; exit 1; }
+	@bash bindings/join.sh mz_tables mz_texts
+	@echo 'build/lib/libmundeziwa.a and build/lib/libmundeziwa.so; the headers are in include, the Rust crate is bindings/rust'
 
 pairs:
 	@mkdir -p build

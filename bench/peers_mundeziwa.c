@@ -1,12 +1,10 @@
 // Mundeziwa by its C calls, on a table that was accepted.
 #include "peers.h"
-#include "../include/mundeziwa.h"
-
-#define UNICODE_CASEMAP 3
+#include "../include/mundeziwa_accepted.h"
 
 static struct text prepare(const struct table *table, struct text text, struct buffer key) {
     uint64_t answer[7];
-    mz_prepare_accepted(UNICODE_CASEMAP, text.octets, text.length, table->entries, table->entries_length, table->pool,
+    mz_prepare_accepted(MZ_UNICODE_CASEMAP, text.octets, text.length, table->entries, table->entries_length, table->pool,
                         table->pool_length, key.octets, key.length, answer);
     if (answer[0] != 0) return (struct text){NULL, 0};
     return (struct text){answer[6] ? key.octets : text.octets, answer[5]};
@@ -15,7 +13,7 @@ static struct text prepare(const struct table *table, struct text text, struct b
 static bool equal(const struct table *table, struct text first, struct text second, struct buffer first_key,
                   struct buffer second_key) {
     uint64_t answer[4];
-    mz_equal_accepted(UNICODE_CASEMAP, first.octets, first.length, second.octets, second.length, table->entries,
+    mz_equal_accepted(MZ_UNICODE_CASEMAP, first.octets, first.length, second.octets, second.length, table->entries,
                       table->entries_length, table->pool, table->pool_length, first_key.octets, first_key.length,
                       second_key.octets, second_key.length, answer);
     return answer[3] == 1;

@@ -1,5 +1,8 @@
 /* Mundeziwa: names compared under the collations of RFC 4790 and RFC 5051, every function proved.
  *
+ * Each call of this header takes any octets, any two slices as a table and buffers of any lengths, and ends with an answer. Their twins
+ * without the check of the table, for callers that keep one table for many texts, are in mundeziwa_accepted.h.
+ *
  * The library keeps nothing, allocates nothing and calls nothing but memcpy and memset: no locale, no errno, no global state. Any
  * number of threads may call it at once. All memory is the caller's, lent for the call alone.
  *
@@ -7,41 +10,20 @@
  * anything that is aligned and not NULL where the number is 0. Slices that are written (keys; entries and pool of mz_add_line; the
  * answer) must overlap no other argument; those that are only read may overlap each other.
  *
- * COLLATIONS. 1 i;octet: the text is its key. 2 i;ascii-casemap: octets a to z raised to A to Z. 3 i;unicode-casemap: the text
- * prepared by RFC 5051 over the lent table, or the text itself if it is not valid UTF-8. 1 and 2 do not read the table.
- *
- * TABLE. entries holds four 32-bit numbers for each entry: code point, titlecase (the code point itself if none), start of its
+ * TABLE. entries holds MZ_ENTRY_WIDTH numbers for each entry: code point, titlecase (the code point itself if none), start of its
  * decomposition in the pool, number of code points there. Entries ascend by code point; a start is the sum of all earlier counts.
  * mz_add_line builds such a table from the lines of UnicodeData.txt; mz_check_table says whether one is accepted. Two empty slices
  * are an accepted table, in which every code point maps to itself.
  *
  * KEYS. The key of a text stands at the start of the lent key buffer, and the octets after it stay as they were; but a key that is the
- * text itself (collation 1, and an invalid text under 3) is not copied, and the buffer stays. Over an accepted table a key has at
- * most 128 octets for each character of its text. A buffer of 128 times the text's length in octets is always long enough, and
- * the call is then quickest.
+ * text itself (i;octet, and an invalid text under i;unicode-casemap) is not copied, and the buffer stays. Over an accepted table a key
+ * has at most 128 octets for each character of its text. A buffer of MZ_KEY_PER_OCTET_MOST times the text's length in octets is
+ * always long enough, and the call is then quickest.
  *
  * ANSWERS. Each call writes the whole of its answer row. answer[0] is the refusal number, 0 if the call was not refused; answer[1] the
- * place: 1 or 2, which text (a lone text is 1), 0 neither; answer[2] the detail, 0 if none is named below. On a refusal no
- * other lent buffer changes, and all later fields of the row are 0 (but see mz_add_line).
- *
- * Refusals, in the order in which they are looked for:
- *     1  collation not 1, 2 or 3
- *     2  a text over 4,096 octets (place: which text; detail: its length)
- *     3  the number of entry numbers is no multiple of 4, over 16,384 entries, or a pool over 65,536 numbers
- *     4  an entry's code point or titlecase is not a Unicode scalar value, or its code point is not above the entry before (detail: the
- *        lowest such entry, counted from 0)
- *     5  an entry with a count over 32, a wrong start, parts past the pool's end, or that says nothing; or a pool longer than all
- *        counts together (detail: the lowest such entry, or the number of entries if no entry is at fault)
- *     6  a pool number that is not a Unicode scalar value (detail: its lowest index)
- *     7  an entry whose code point does not unfold within 8 levels into at most 32 code points (detail: the lowest such entry)
- *     8  a key that belongs in a buffer is longer than it (place: which text; detail: the length needed)
- * and of mz_add_line, place and detail 0:
- *    28  a state that no line can have left          20  a line over 512 octets
- *    21  not exactly 14 semicolons                   22, 23, 24  field 0, 5, 14 malformed
- *    25  a mapping with a surrogate in field 0, 5 or 14
- *    26  the code point is not above the last        27  no room for the entry or its parts, or a limit of 3 passed
- *
- * A text is never refused for its content, and no call fails in any other way.
+ * place: 1 or 2, which text (a lone text is 1), 0 neither; answer[2] the detail, which the refusals below name. On a refusal no
+ * other lent buffer changes, and all later fields of the row are 0 (but see mz_add_line). The checks run in the order of the refusals
+ * below, and the first that applies is answered. A text is never refused for its content, and no call fails in any other way.
  */
 #ifndef MUNDEZIWA_H
 #define MUNDEZIWA_H
@@ -53,7 +35,50 @@
 extern "C" {
 #endif
 
-/* Whether a table is accepted: one of 3 to 7, or accepted (answer[0] is 0).
+/* The interface that this header describes. A later one may give the same names other parameters: a program that loads the library
+ * compares this number with mz_interface() before it makes any other call. */
+#define MZ_INTERFACE 1
+
+/* Collations. 1 and 2 do not read the table. */
+#define MZ_OCTET 1           /* i;octet: the text is its key */
+#define MZ_ASCII_CASEMAP 2   /* i;ascii-casemap: octets a to z raised to A to Z */
+#define MZ_UNICODE_CASEMAP 3 /* i;unicode-casemap: the text prepared by RFC 5051 over the table, or itself if it is not valid UTF-8 */
+
+/* Limits. */
+#define MZ_TEXT_MOST 4096         /* octets of a text */
+#define MZ_ENTRIES_MOST 16384     /* entries of a table */
+#define MZ_ENTRY_WIDTH 4          /* numbers of an entry */
+#define MZ_POOL_MOST 65536        /* numbers of a pool */
+#define MZ_LINE_MOST 512          /* octets of a line of UnicodeData.txt */
+#define MZ_KEY_PER_OCTET_MOST 128 /* octets of a key for each octet of its text */
+
+/* Refusals of a call on texts, in their order; 3 to 7 are those of mz_check_table. The place is which text for 2 and 8, else 0. The detail is
+ * for 2 the text's length; for 4, 5 and 7 the lowest such entry, counted from 0 (for 5 the number of entries, if it is the pool that is
+ * too long); for 6 the lowest such index; for 8 the length needed; else 0. */
+#define MZ_REFUSED_COLLATION 1   /* the number is no collation's */
+#define MZ_REFUSED_TEXT_LENGTH 2 /* a text is over MZ_TEXT_MOST */
+#define MZ_REFUSED_TABLE_SIZE 3  /* entries not whole or over MZ_ENTRIES_MOST, or a pool over MZ_POOL_MOST */
+#define MZ_REFUSED_CODE_POINT 4  /* a code point or titlecase is no Unicode scalar value, or code points do not ascend */
+#define MZ_REFUSED_ENTRY 5       /* a count over 32, a wrong start, parts past the pool's end, an entry that says nothing, a pool too long */
+#define MZ_REFUSED_POOL_NUMBER 6 /* a pool number is no Unicode scalar value */
+#define MZ_REFUSED_LEVEL 7       /* a code point does not unfold within 8 levels into at most 32 code points */
+#define MZ_REFUSED_KEY_ROOM 8    /* a key that belongs in a buffer is longer than it */
+
+/* Refusals of mz_add_line, in their order; place and detail are 0. */
+#define MZ_REFUSED_STATE 28       /* a state that no line can have left */
+#define MZ_REFUSED_LINE_LENGTH 20 /* a line over MZ_LINE_MOST */
+#define MZ_REFUSED_FIELD_COUNT 21 /* not exactly 14 semicolons */
+#define MZ_REFUSED_FIELD_0 22     /* field 0, the code point, is malformed */
+#define MZ_REFUSED_FIELD_5 23     /* field 5, the decomposition, is malformed */
+#define MZ_REFUSED_FIELD_14 24    /* field 14, the titlecase, is malformed */
+#define MZ_REFUSED_SURROGATE 25   /* a mapping with a surrogate in field 0, 5 or 14 */
+#define MZ_REFUSED_ORDER 26       /* the code point is not above the last */
+#define MZ_REFUSED_NO_ROOM 27     /* no room for the entry or its parts, or a limit of a table passed */
+
+/* The number of the interface that the library has: MZ_INTERFACE of the header that it was built with. */
+uint32_t mz_interface(void);
+
+/* Whether a table is accepted (answer[0] is 0), or which of the refusals 3 to 7 it has.
  * answer: number, place (always 0), detail. */
 void mz_check_table(const uint32_t *entries, size_t entries_length,
                     const uint32_t *pool, size_t pool_length,
@@ -105,7 +130,7 @@ void mz_substring(uint32_t collation,
                   uint64_t answer[8]);
 
 /* Adds one line of UnicodeData.txt, without its line end, to a table that is being built. The state is three numbers, all 0 at
- * first: entries used, pool numbers used, and one more than the last code point. The table so far is the first 4 * entries_used
+ * first: entries used, pool numbers used, and one more than the last code point. The table so far is the first MZ_ENTRY_WIDTH * entries_used
  * numbers of entries and the first pool_used numbers of pool. A line with a mapping appends one entry and its parts; any other
  * line only moves the third number.
  * answer: number, place (0), detail (0); the state afterwards: entries used, pool used, next. ON A REFUSAL THE LAST THREE ARE THE STATE
@@ -115,46 +140,6 @@ void mz_add_line(uint64_t entries_used, uint64_t pool_used, uint64_t next,
                  uint32_t *entries, size_t entries_length,
                  uint32_t *pool, size_t pool_length,
                  uint64_t answer[6]);
-
-/* The calls below are those above WITHOUT THE CHECK OF THE TABLE, for callers that keep one table for many texts.
- *
- * UNDER COLLATION 3 THEY MUST BE GIVEN A TABLE THAT mz_check_table HAS ACCEPTED (answer[0] was 0), WITH NO NUMBER OF entries OR pool
- * CHANGED SINCE. ON ANY OTHER TABLE NOTHING IS PROMISED: THEY MAY READ OR WRITE OUTSIDE THE SLICES, OR NEVER RETURN.
- *
- * On an accepted table each answers exactly as its twin. Refusals 1, 2 and 8. */
-void mz_prepare_accepted(uint32_t collation,
-                         const uint8_t *text, size_t text_length,
-                         const uint32_t *entries, size_t entries_length,
-                         const uint32_t *pool, size_t pool_length,
-                         uint8_t *key, size_t key_length,
-                         uint64_t answer[7]);
-
-void mz_equal_accepted(uint32_t collation,
-                       const uint8_t *first, size_t first_length,
-                       const uint8_t *second, size_t second_length,
-                       const uint32_t *entries, size_t entries_length,
-                       const uint32_t *pool, size_t pool_length,
-                       uint8_t *first_key, size_t first_key_length,
-                       uint8_t *second_key, size_t second_key_length,
-                       uint64_t answer[4]);
-
-void mz_order_accepted(uint32_t collation,
-                       const uint8_t *first, size_t first_length,
-                       const uint8_t *second, size_t second_length,
-                       const uint32_t *entries, size_t entries_length,
-                       const uint32_t *pool, size_t pool_length,
-                       uint8_t *first_key, size_t first_key_length,
-                       uint8_t *second_key, size_t second_key_length,
-                       uint64_t answer[4]);
-
-void mz_substring_accepted(uint32_t collation,
-                           const uint8_t *first, size_t first_length,
-                           const uint8_t *second, size_t second_length,
-                           const uint32_t *entries, size_t entries_length,
-                           const uint32_t *pool, size_t pool_length,
-                           uint8_t *first_key, size_t first_key_length,
-                           uint8_t *second_key, size_t second_key_length,
-                           uint64_t answer[8]);
 
 #ifdef __cplusplus
 }

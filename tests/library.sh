@@ -3,17 +3,44 @@
 set -euo pipefail
 cd "$(dirname "$0")/.."
 
-make lib
-strict=(-Wall -Wextra -Werror -pedantic -Iinclude)
-cc -std=c99 "${strict[@]}" -o build/c_calls tests/c_calls.c build/lib/libmundeziwa.a
-./build/c_calls
-cc -std=c99 "${strict[@]}" -o build/c_calls_shared tests/c_calls.c -Lbuild/lib -lmundeziwa "-Wl,-rpath,$PWD/build/lib"
-./build/c_calls_shared
-c++ "${strict[@]}" -fsyntax-only -x c++ include/mundeziwa.h
+fail() {
+    echo "library: $*" >&2
+    exit 1
+}
 
-# the header and the shared object name the same calls
-header=$(grep -o '^void mz_[a-z_]*' include/mundeziwa.h | cut -d ' ' -f 2 | sort)
-shared=$(nm -D --defined-only build/lib/libmundeziwa.so | awk '$2 == "T" { print $3 }' | grep '^mz_' | sort)
-[ "$header" = "$shared" ] || { echo "the header and the library name different calls:"; diff <(echo "$header") <(echo "$shared"); exit 1; }
+# same WHAT ONE OTHER: fails with the differing lines, unless the two texts are the same.
+same() {
+    [ "$2" = "$3" ] || { diff <(echo "$2") <(echo "$3") >&2 || true; fail "$1"; }
+}
+
+make lib
+readonly LIB=build/lib
+strict=(-Wall -Wextra -Werror -pedantic -Iinclude)
+cc -std=c99 "${strict[@]}" -o build/c_calls tests/c_calls.c "$LIB/libmundeziwa.a"
+./build/c_calls
+cc -std=c99 "${strict[@]}" -o build/c_calls_shared tests/c_calls.c "-L$LIB" -lmundeziwa "-Wl,-rpath,$PWD/$LIB"
+./build/c_calls_shared
+for header in include/*.h; do
+    c++ "${strict[@]}" -fsyntax-only -x c++ "$header"
+done
+
+# the headers and the library name the same calls, each once and nothing else
+named=$(grep -ohE '^(void|uint32_t) mz_[a-z_]+' include/*.h | cut -d ' ' -f 2 | sort)
+same 'the headers and the archive name different calls' "$named" \
+    "$(nm -g --defined-only "$LIB/libmundeziwa.a" | awk 'NF == 3 { print $3 }' | sort)"
+same 'the headers and the shared object name different calls' "$named" \
+    "$(nm -D --defined-only "$LIB/libmundeziwa.so" | awk '{ print $3 }' | sort)"
+
+# the shared object is named after the interface, and a program asks for that name
+interface=$(sed -n 's/^#define MZ_INTERFACE //p' include/mundeziwa.h)
+readelf -d "$LIB/libmundeziwa.so" | grep -qF "soname: [libmundeziwa.so.$interface]" || fail 'the shared object has another SONAME'
+readelf -d build/c_calls_shared | grep -qF "[libmundeziwa.so.$interface]" || fail 'a program asks for another shared object'
+
+# the header's collations, limits and refusals are those of crates/terms (9 is the program's alone)
+header=$(awk '$1 == "#define" && NF > 2 { sub("MZ_", "", $2); print $2, $3 }' include/mundeziwa.h | sort)
+terms=$(awk '$1 == "pub" && $2 == "const" { print $3, $6 }' crates/terms/src/lib.rt | tr -d ':;' | grep -v '^REFUSED_NO_TAB ' | sort)
+same 'the header and crates/terms have different numbers' '' \
+    "$(comm -23 <(grep -Ev '^(INTERFACE|ENTRY_WIDTH|KEY_PER_OCTET_MOST) ' <<< "$header") <(echo "$terms"))"
+same 'the header and crates/terms have different refusals' "$(grep '^REFUSED_' <<< "$header")" "$(grep '^REFUSED_' <<< "$terms")"
 
 CARGO_TARGET_DIR=build/rust cargo test --quiet --offline --manifest-path bindings/rust/Cargo.toml

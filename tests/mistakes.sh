@@ -7,7 +7,7 @@
 set -euo pipefail
 cd "$(dirname "$0")/.."
 
-MUNDEZIWA_LIB_DIR="$(realpath -m "${MUNDEZIWA_LIB_DIR:-target/staticlib}")"
+MUNDEZIWA_LIB_DIR="$(realpath -m "${MUNDEZIWA_LIB_DIR:-build/lib}")"
 export MUNDEZIWA_LIB_DIR
 export CARGO_TARGET_DIR="$PWD/build/mistakes${JOB:-0}"
 export MZ_SHORT=yes MZ_CASES="${MZ_CASES:-5000}"

@@ -1,7 +1,7 @@
 #!/usr/bin/env bash
 # The comparison of the proved library with the second program, from the repository root: tests/second.sh
 #
-# Needs target/staticlib/libmundeziwa.a (MUNDEZIWA_LIB_DIR names another directory), cargo, Python 3 and the published
+# Needs build/lib/libmundeziwa.a, which `make lib` leaves (MUNDEZIWA_LIB_DIR names another directory), cargo, Python 3 and the published
 # UnicodeData.txt (MZ_UNICODE_DATA names another place; Debian's package unicode-data has it). UTF8_TEST may name Markus Kuhn's
 # UTF-8-test.txt, whose lines are then compared too. MZ_SEED and MZ_CASES set the random part. Whatever is missing is a failure.
 set -euo pipefail
@@ -9,7 +9,7 @@ cd "$(dirname "$0")/.."
 
 readonly EDITION=806e9aed65037197f1ec85e12be6e8cd870fc5608b4de0fffd990f689f376a73
 export MZ_UNICODE_DATA="${MZ_UNICODE_DATA:-/usr/share/unicode/UnicodeData.txt}"
-MUNDEZIWA_LIB_DIR="$(realpath -m "${MUNDEZIWA_LIB_DIR:-target/staticlib}")"
+MUNDEZIWA_LIB_DIR="$(realpath -m "${MUNDEZIWA_LIB_DIR:-build/lib}")"
 export MUNDEZIWA_LIB_DIR
 export CARGO_TARGET_DIR="$PWD/build/second"
 export MZ_NFKD="$PWD/build/nfkd.txt"

@@ -40,6 +40,7 @@ pub enum ReadError {
 impl TableBuilder {
     /// A builder with no line yet.
     pub fn new() -> TableBuilder {
+        ffi::check_interface();
         TableBuilder { entries: vec![0; 4 * ENTRIES_MOST], pool: vec![0; POOL_MOST], entries_used: 0, pool_used: 0, next: 0 }
     }
 

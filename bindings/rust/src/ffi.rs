@@ -1,6 +1,18 @@
-//! The calls of include/mundeziwa.h that this crate uses. A slice is a pointer and the number of its elements.
+//! The calls of include/mundeziwa.h and include/mundeziwa_accepted.h. A slice is a pointer and the number of its elements; an answer is a
+//! row of so many numbers.
+//!
+//! The comparison with the second program (tests/compare) takes its declarations from this file, and makes the calls that this crate
+//! has no use for.
+#![allow(dead_code)]
 
-/// A call on two texts that answers a row of N numbers: collation; first, second; entries, pool; first key, second key.
+/// MZ_INTERFACE of the header that these declarations render.
+pub const INTERFACE: u32 = 1;
+
+/// A call on one text: collation; text; entries, pool; key; answer.
+pub type Preparing =
+    unsafe extern "C" fn(u32, *const u8, usize, *const u32, usize, *const u32, usize, *mut u8, usize, *mut [u64; 7]);
+
+/// A call on two texts that answers a row of N numbers: collation; first, second; entries, pool; first key, second key; answer.
 pub type Comparing<const N: usize> = unsafe extern "C" fn(
     u32,
     *const u8,
@@ -19,76 +31,14 @@ pub type Comparing<const N: usize> = unsafe extern "C" fn(
 );
 
 extern "C" {
+    pub fn mz_interface() -> u32;
+
     pub fn mz_check_table(
         entries: *const u32,
         entries_length: usize,
         pool: *const u32,
         pool_length: usize,
         answer: *mut [u64; 3],
-    );
-
-    pub fn mz_prepare_accepted(
-        collation: u32,
-        text: *const u8,
-        text_length: usize,
-        entries: *const u32,
-        entries_length: usize,
-        pool: *const u32,
-        pool_length: usize,
-        key: *mut u8,
-        key_length: usize,
-        answer: *mut [u64; 7],
-    );
-
-    pub fn mz_equal_accepted(
-        collation: u32,
-        first: *const u8,
-        first_length: usize,
-        second: *const u8,
-        second_length: usize,
-        entries: *const u32,
-        entries_length: usize,
-        pool: *const u32,
-        pool_length: usize,
-        first_key: *mut u8,
-        first_key_length: usize,
-        second_key: *mut u8,
-        second_key_length: usize,
-        answer: *mut [u64; 4],
-    );
-
-    pub fn mz_order_accepted(
-        collation: u32,
-        first: *const u8,
-        first_length: usize,
-        second: *const u8,
-        second_length: usize,
-        entries: *const u32,
-        entries_length: usize,
-        pool: *const u32,
-        pool_length: usize,
-        first_key: *mut u8,
-        first_key_length: usize,
-        second_key: *mut u8,
-        second_key_length: usize,
-        answer: *mut [u64; 4],
-    );
-
-    pub fn mz_substring_accepted(
-        collation: u32,
-        first: *const u8,
-        first_length: usize,
-        second: *const u8,
-        second_length: usize,
-        entries: *const u32,
-        entries_length: usize,
-        pool: *const u32,
-        pool_length: usize,
-        first_key: *mut u8,
-        first_key_length: usize,
-        second_key: *mut u8,
-        second_key_length: usize,
-        answer: *mut [u64; 8],
     );
 
     pub fn mz_add_line(
@@ -102,5 +52,64 @@ extern "C" {
         pool: *mut u32,
         pool_length: usize,
         answer: *mut [u64; 6],
+    );
+}
+
+/// Declares calls on one text.
+macro_rules! preparing {
+    ($($name:ident),*) => {
+        extern "C" {
+            $(pub fn $name(
+                collation: u32,
+                text: *const u8,
+                text_length: usize,
+                entries: *const u32,
+                entries_length: usize,
+                pool: *const u32,
+                pool_length: usize,
+                key: *mut u8,
+                key_length: usize,
+                answer: *mut [u64; 7],
+            );)*
+        }
+    };
+}
+
+/// Declares calls on two texts that answer rows of so many numbers.
+macro_rules! comparing {
+    ($n:literal: $($name:ident),*) => {
+        extern "C" {
+            $(pub fn $name(
+                collation: u32,
+                first: *const u8,
+                first_length: usize,
+                second: *const u8,
+                second_length: usize,
+                entries: *const u32,
+                entries_length: usize,
+                pool: *const u32,
+                pool_length: usize,
+                first_key: *mut u8,
+                first_key_length: usize,
+                second_key: *mut u8,
+                second_key_length: usize,
+                answer: *mut [u64; $n],
+            );)*
+        }
+    };
+}
+
+preparing!(mz_prepare, mz_prepare_accepted);
+comparing!(4: mz_equal, mz_equal_accepted, mz_order, mz_order_accepted);
+comparing!(8: mz_substring, mz_substring_accepted);
+
+/// Stops the program if the linked library has another interface: the same names may then take other parameters.
+pub fn check_interface() {
+    // SAFETY: the call takes nothing and reads nothing.
+    let linked = unsafe { mz_interface() };
+    assert!(
+        linked == INTERFACE,
+        "the linked libmundeziwa has interface {linked}, and interface {INTERFACE} is needed: \
+         build both from one checkout (`make lib`), or name the folder of the right library with MUNDEZIWA_LIB_DIR"
     );
 }

@@ -1,7 +1,8 @@
 //! Names compared under the collations of RFC 4790 and RFC 5051: `i;octet`, `i;ascii-casemap` and `i;unicode-casemap`.
 //!
 //! The work is done by a library whose every function is proved to meet its contract; this crate checks a mapping table once,
-//! keeps it borrowed, and calls that library. Nothing here panics on any input, and nothing is `unsafe` to call.
+//! keeps it borrowed, and calls that library. Nothing here panics on any input, and nothing is `unsafe` to call. (A library of another
+//! interface than this crate was written for, linked by mistake, stops the program at the first table or builder, with both numbers.)
 //!
 //! ```
 //! use mundeziwa::{Collation, TableBuilder};

@@ -5,7 +5,8 @@ use std::cell::RefCell;
 use std::cmp::Ordering;
 use std::ops::Range;
 
-/// A mapping table that was checked and accepted. It borrows its two slices, so that nobody can change them while it is in use.
+/// A mapping table that was checked and accepted. It borrows its two slices, so that nobody can change them while it is in use: this is
+/// what the calls of include/mundeziwa_accepted.h ask for, and the crate makes them over such a table alone.
 ///
 /// ```
 /// use mundeziwa::{Collation, Table};
@@ -65,6 +66,7 @@ impl<'a> Table<'a> {
     ///
     /// Refusals 3 to 7.
     pub fn new(entries: &'a [u32], pool: &'a [u32]) -> Result<Table<'a>, Refusal> {
+        ffi::check_interface();
         let mut answer = [0; 3];
         // SAFETY: the pointers and lengths are those of live slices, and the answer row has three numbers.
         unsafe { ffi::mz_check_table(entries.as_ptr(), entries.len(), pool.as_ptr(), pool.len(), &mut answer) };

@@ -1,18 +1,9 @@
-// Tables in two local arrays: single entries and pool numbers, and chains of entries.
+// Tables in two local arrays: pool numbers, and chains of entries.
+use table::layout;
 ghost use Prim.Native.Nat.{_≤_};
 
 // The code point of a chain's first entry; entry i has the i-th after it.
 pub const FIRST: u32 = 0x100;
-
-// Entry i.
-pub fn put_entry(entries: &mut [u32], i: usize, c: u32, title: u32, start: u32, count: u32) {
-    if i < entries.len() / 4 {
-        entries[i * 4] = c;
-        entries[i * 4 + 1] = title;
-        entries[i * 4 + 2] = start;
-        entries[i * 4 + 3] = count;
-    }
-}
 
 // Pool number i.
 pub fn put_number(pool: &mut [u32], i: usize, c: u32) {
@@ -38,7 +29,7 @@ pub fn put_chain(entries: &mut [u32], pool: &mut [u32], n: u32, parts: u32)
     let mut i: u32 = 0;
     let mut start: u32 = 0;
     while i < n {
-        put_entry(entries, i as usize, FIRST + i, FIRST + i, start, parts);
+        put_link(entries, i, start, parts);
         put_numbers(
             pool,
             start as usize,
@@ -47,5 +38,15 @@ pub fn put_chain(entries: &mut [u32], pool: &mut [u32], n: u32, parts: u32)
         );
         start += parts;
         i += 1;
+    }
+}
+
+// Entry i of a chain.
+fn put_link(entries: &mut [u32], i: u32, start: u32, parts: u32)
+    requires { ⌜ i ≤ 16384 ⌝ }
+{
+    let at = i as usize;
+    if at < layout::entry_count(entries) {
+        layout::put_entry(entries, at, FIRST + i, FIRST + i, start, parts);
     }
 }

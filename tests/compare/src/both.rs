@@ -1,7 +1,8 @@
 //! One input given to both programs: their answers and all lent memory must be the same.
 
+use crate::abi::{Call, Comparing, EQUAL, ORDER, PREPARE, SUBSTRING};
 use crate::hex::{hex, hex_numbers};
-use crate::library::{self, Call, LentTable};
+use crate::library::{self, LentTable};
 use second::collate::{self, Pair};
 use second::table::{examine, Verdict};
 
@@ -69,7 +70,7 @@ impl Table {
     /// Prepares a text in both programs.
     pub fn prepare(&self, accepted: bool, collation: u32, text: &[u8], room: usize) -> Result<Agreed<7>, String> {
         let mut key = pattern(room);
-        let answer = library::prepare(accepted, collation, text, &self.lent, &mut key).map(|row| Agreed {
+        let answer = library::prepare(PREPARE.form(accepted), collation, text, &self.lent, &mut key).map(|row| Agreed {
             row,
             first_key: key,
             second_key: Vec::new(),
@@ -78,7 +79,7 @@ impl Table {
         let row = collate::prepare(collation, text, &self.verdict, &mut key);
         let expected = Agreed { row, first_key: key, second_key: Vec::new() };
         let case = || Case { collation, first: text.to_vec(), second: Vec::new(), first_room: room, second_room: 0 };
-        let agreed = self.agree(Call::Prepare, accepted, case, answer, expected)?;
+        let agreed = self.agree(PREPARE.name, accepted, case, answer, expected)?;
         if collation == 3 && !is_within_bounds(text, &agreed.row) {
             return Err(format!("over the bounds: {:?}\n{}{}", agreed.row, case().describe(), self.describe()));
         }
@@ -86,20 +87,20 @@ impl Table {
     }
 
     pub fn equal(&self, accepted: bool, case: &Case) -> Result<Agreed<4>, String> {
-        self.compare(Call::Equal, accepted, case, collate::equal)
+        self.compare(EQUAL, accepted, case, collate::equal)
     }
 
     pub fn order(&self, accepted: bool, case: &Case) -> Result<Agreed<4>, String> {
-        self.compare(Call::Order, accepted, case, collate::order)
+        self.compare(ORDER, accepted, case, collate::order)
     }
 
     pub fn substring(&self, accepted: bool, case: &Case) -> Result<Agreed<8>, String> {
-        self.compare(Call::Substring, accepted, case, collate::substring)
+        self.compare(SUBSTRING, accepted, case, collate::substring)
     }
 
     fn compare<const N: usize>(
         &self,
-        call: Call,
+        call: Call<Comparing<N>>,
         accepted: bool,
         case: &Case,
         second: fn(&Pair, &mut [u8], &mut [u8]) -> [u64; N],
@@ -107,7 +108,7 @@ impl Table {
         let (mut first_key, mut second_key) = (pattern(case.first_room), pattern(case.second_room));
         let texts = (case.first.as_slice(), case.second.as_slice());
         let buffers = (first_key.as_mut_slice(), second_key.as_mut_slice());
-        let answer = library::compare::<N>((call, accepted), case.collation, texts, &self.lent, buffers).map(|row| Agreed {
+        let answer = library::compare(call.form(accepted), case.collation, texts, &self.lent, buffers).map(|row| Agreed {
             row,
             first_key,
             second_key,
@@ -115,12 +116,12 @@ impl Table {
         let (mut first_key, mut second_key) = (pattern(case.first_room), pattern(case.second_room));
         let pair = Pair { collation: case.collation, first: texts.0, second: texts.1, verdict: &self.verdict };
         let row = second(&pair, &mut first_key, &mut second_key);
-        self.agree(call, accepted, || case.clone(), answer, Agreed { row, first_key, second_key })
+        self.agree(call.name, accepted, || case.clone(), answer, Agreed { row, first_key, second_key })
     }
 
     fn agree<const N: usize>(
         &self,
-        call: Call,
+        name: &str,
         accepted: bool,
         case: impl Fn() -> Case,
         answer: Result<Agreed<N>, String>,
@@ -132,7 +133,7 @@ impl Table {
         let library = answer.map_or_else(|fault| fault, |answer| answer.describe());
         let twin = if accepted { ", without the check of the table" } else { "" };
         let (case, second) = (case().describe(), expected.describe());
-        Err(format!("{call:?}{twin}\n{case}{}library: {library}\nsecond:  {second}", self.describe()))
+        Err(format!("{name}{twin}\n{case}{}library: {library}\nsecond:  {second}", self.describe()))
     }
 
     /// Makes every call on one case, and answers with the row of the last, the substring's. Those without the check of the table

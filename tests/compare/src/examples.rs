@@ -81,6 +81,7 @@ impl Examples {
         self.prepared(&[0xC3], [0, 0, 0, 0, 0, 1, 0], &[])?;
         self.prepared(&[0xC0, 0x80], [0, 0, 0, 0, 0, 2, 0], &[])?;
         self.prepared(&[0x61, 0xFF], [0, 0, 0, 0, 0, 2, 0], &[])?;
+        self.prepared("José".as_bytes(), [0, 0, 0, 1, 10, 6, 1], &[0x4A, 0x6F, 0x73, 0x45, 0xCC, 0x81])?;
         self.prepared(&[0x61, 0xC3, 0xA9], [0, 0, 0, 1, 6, 4, 1], &[0x41, 0x45, 0xCC, 0x81])
     }
 
@@ -110,7 +111,16 @@ impl Examples {
         self.ordered(3, &[0x45], &[0xC3, 0xA9], 1)?;
         self.ordered(3, &[0xC3], &[0xC3, 0xA9], 3)?;
         self.ordered(3, "É".as_bytes(), "é".as_bytes(), 2)?;
-        self.ordered(3, "a".as_bytes(), "A".as_bytes(), 2)?;
+        // T has a titlecase for small e with an accent, and none for e alone.
+        self.ordered(3, "E\u{301}".as_bytes(), "é".as_bytes(), 2)?;
+        self.ordered(3, "e\u{301}".as_bytes(), "é".as_bytes(), 3)?;
+        for (collation, order) in [(1, 3), (2, 2), (3, 2)] {
+            self.ordered(collation, b"a", b"A", order)?;
+        }
+        // A proper prefix is less.
+        self.ordered(3, b"", b"", 2)?;
+        self.ordered(3, b"", b"A", 1)?;
+        self.ordered(3, b"aa", b"A", 3)?;
         // U+FB01 isn't "fi".
         self.ordered(3, "ﬁ".as_bytes(), b"fi", 3)?;
         // No circle: "a" before "B", "B" before 50 FF, "a" before 50 FF.
@@ -138,7 +148,10 @@ impl Examples {
         self.found(&[0xCC, 0x81], &second, [0, 0, 0, 1, 2, 4, 1, 3])?;
         self.found(&[0x81], &second, [0, 0, 0, 1, 3, 4, 1, 3])?;
         self.found(&[], &second, [0, 0, 0, 1, 0, 0, 0, 0])?;
+        self.found(b"E", &second, [0, 0, 0, 1, 1, 2, 1, 3])?;
         self.found(b"x", &second, [0, 0, 0, 2, 0, 0, 0, 0])?;
+        // From inside one character to inside the next but one.
+        self.found(b"\x81AE", "éaé".as_bytes(), [0, 0, 0, 1, 2, 5, 0, 5])?;
         self.found(b"aab", b"aaab", [0, 0, 0, 1, 1, 4, 1, 4])?;
         self.found(b"a", b"bAab", [0, 0, 0, 1, 1, 2, 1, 2])
     }

@@ -1,7 +1,6 @@
-//! The C calls of the proved library (include/mundeziwa.h), made on guarded memory.
+//! The C calls of the proved library, made on guarded memory.
 
-pub use crate::abi::Call;
-use crate::abi::{comparing, mz_add_line, mz_check_table, preparing};
+use crate::abi::{mz_add_line, mz_check_table, Comparing, Preparing};
 use crate::lent::Lent;
 use second::unicode_data::State;
 
@@ -34,7 +33,7 @@ impl LentTable {
                 self.entries.length(),
                 self.pool.pointer(),
                 self.pool.length(),
-                answer.pointer_mut(),
+                answer.pointer_mut().cast(),
             );
         }
         row::<3>(&answer)
@@ -55,12 +54,12 @@ fn row<const N: usize>(answer: &Lent<u64>) -> Result<[u64; N], String> {
 }
 
 /// Prepares one text; the buffer is filled from `buffer` before and copied back after.
-pub fn prepare(accepted: bool, collation: u32, text: &[u8], table: &LentTable, buffer: &mut [u8]) -> Result<[u64; 7], String> {
+pub fn prepare(call: Preparing, collation: u32, text: &[u8], table: &LentTable, buffer: &mut [u8]) -> Result<[u64; 7], String> {
     let lent_text = Lent::new(text, OCTET_GUARD);
     let mut key = Lent::new(buffer, OCTET_GUARD);
     let mut answer = new_row();
     unsafe {
-        preparing(accepted)(
+        call(
             collation,
             lent_text.pointer(),
             lent_text.length(),
@@ -70,7 +69,7 @@ pub fn prepare(accepted: bool, collation: u32, text: &[u8], table: &LentTable, b
             table.pool.length(),
             key.pointer_mut(),
             key.length(),
-            answer.pointer_mut(),
+            answer.pointer_mut().cast(),
         );
     }
     if !lent_text.still_holds(text) || !key.guards_stay() {
@@ -82,7 +81,7 @@ pub fn prepare(accepted: bool, collation: u32, text: &[u8], table: &LentTable, b
 
 /// Makes one of the comparing calls; both buffers are filled from the arguments before and copied back after.
 pub fn compare<const N: usize>(
-    (call, accepted): (Call, bool),
+    call: Comparing<N>,
     collation: u32,
     (first, second): (&[u8], &[u8]),
     table: &LentTable,
@@ -94,7 +93,7 @@ pub fn compare<const N: usize>(
     let mut second_key = Lent::new(second_buffer, OCTET_GUARD);
     let mut answer = new_row();
     unsafe {
-        comparing(call, accepted)(
+        call(
             collation,
             lent_first.pointer(),
             lent_first.length(),
@@ -108,7 +107,7 @@ pub fn compare<const N: usize>(
             first_key.length(),
             second_key.pointer_mut(),
             second_key.length(),
-            answer.pointer_mut(),
+            answer.pointer_mut().cast(),
         );
     }
     if !lent_first.still_holds(first) || !lent_second.still_holds(second) {
@@ -138,7 +137,7 @@ pub fn add_line(state: State, line: &[u8], table: &mut LentTable) -> Result<[u64
             entries_length,
             table.pool.pointer_mut(),
             pool_length,
-            answer.pointer_mut(),
+            answer.pointer_mut().cast(),
         );
     }
     if !lent_line.still_holds(line) || !table.entries.guards_stay() || !table.pool.guards_stay() {

@@ -73,6 +73,7 @@ const PARTS: [Part; 5] = [
 ];
 
 fn run_parts() -> Result<(), String> {
+    abi::check_interface();
     let settings = settings()?;
     println!("seed {}, {} random cases", settings.seed, settings.cases);
     for (name, run) in PARTS.iter().filter(|(name, _)| settings.parts.contains(&name[5..6])) {
