@@ -1,13 +1,12 @@
--- A code point's expansion over a table, by whether the code point has an entry: what was counted and written of it.
+-- A code point's expansion by its titlecase, over a mapping: what was counted and written of it.
 -- Assumes nothing.
 use mathlib.Core.Path.{_≡_, ap, _∙_}
 use Prim.Native.Nat.{ℕ, suc, _+_}
 use native.Mathlib.Numerals.{add-one}
-use mathlib.Core.Option.{none, some}
 use mathlib.Core.List.{List, []}
 use lib.ListN.{length}
 use Rattle.terms.specs.Refusals.{levelsMost}
-use Rattle.table.specs.Table.{titleAt, entryOf, titleIn, titleOf, partsIn, partsOf, mappingOf}
+use Rattle.table.specs.Mapping.{Mapping}
 use Rattle.utf8.specs.Utf8.{encode, encodes}
 use Rattle.utf8.specs.Promises.{Written}
 use Rattle.decompose.specs.Levels.{full, asks}
@@ -16,63 +15,35 @@ use Rattle.decompose.specs.Promises.{Counted, Filled, ExpansionCounted, 
 use Rattle.decompose.specs.declared.Unfolded.{Unfolded}
 use Rattle.decompose.proofs.Walk.{encodes-whole, counted-whole, filled-whole}
 
--- ---- no entry
-
-module _ (es pool : List ℕ) (c : ℕ) (e : entryOf es c ≡ none) where
-  -- the code point is its own titlecase
-  pub title-none : titleOf es c ≡ c
-  title-none = ap (titleIn es c) e
-
-  -- and has no parts
-  pub partsOf-none : partsOf es pool c ≡ []
-  partsOf-none = ap (partsIn es pool) e
-
-  -- so it becomes its own octets
-  pub expanded-none : expanded (mappingOf es pool) c ≡ encode c
-  expanded-none = rw title-none (encodes-whole (mappingOf es pool) levelsMost c partsOf-none)
-
-  -- for two asks
-  pub counted-none : (k : ℕ) → k ≡ length (encode c)
-      → ExpansionCounted (mappingOf es pool) c (record { octets = k; asks = 2 })
-  counted-none k h =
-      let whole = counted-whole (mappingOf es pool) levelsMost c partsOf-none k h in
-      rw title-none (record { octets = whole .octets; asked = ap suc (whole .asked) })
-
-  -- which are what was written
-  pub filled-none : (slice : List ℕ) (k : ℕ) (after : List ℕ) → Written c slice k after
-      → ExpansionFilled (mappingOf es pool) c slice (record { octets = k; asks = 2 }) after
-  filled-none slice k after w =
-      let whole = filled-whole (mappingOf es pool) levelsMost c partsOf-none slice k after w in
-      record { counted = counted-none k (w .count); written = rw title-none (whole .written) }
-
--- ---- an entry
-
-module _ (es pool : List ℕ) (c i : ℕ) (e : entryOf es c ≡ some i) where
-  -- the code point becomes the full decomposition of the entry's titlecase
-  pub expanded-entry : expanded (mappingOf es pool) c ≡ encodes (full (mappingOf es pool) levelsMost (titleAt es i))
-  expanded-entry = ap (λ t. encodes (full (mappingOf es pool) levelsMost t)) (ap (titleIn es c) e)
+module _ (m : Mapping) (c x : ℕ) (e : m .title c ≡ x) where
+  -- the code point becomes the full decomposition of its titlecase
+  pub expanded-title : expanded m c ≡ encodes (full m levelsMost x)
+  expanded-title = ap (λ y. encodes (full m levelsMost y)) e
 
   -- for one ask more than that takes
-  pub counted-entry : (r : Unfolded)
-      → Counted (full (mappingOf es pool) levelsMost (titleAt es i)) (asks (mappingOf es pool) levelsMost (titleAt es i)) r
-      → ExpansionCounted (mappingOf es pool) c (record { octets = r .octets; asks = r .asks + 1 })
-  counted-entry r w = rw (ap (titleIn es c) e) (record { octets = w .octets; asked = add-one (r .asks) ∙ ap suc (w .asked) })
+  pub counted-title : (r : Unfolded) → Counted (full m levelsMost x) (asks m levelsMost x) r
+      → ExpansionCounted m c (record { octets = r .octets; asks = r .asks + 1 })
+  counted-title r w = rw e (record { octets = w .octets; asked = add-one (r .asks) ∙ ap suc (w .asked) })
 
   -- and these are what was written
-  pub filled-entry : (slice : List ℕ) (r : Unfolded) (after : List ℕ)
-      → Filled (full (mappingOf es pool) levelsMost (titleAt es i)) (asks (mappingOf es pool) levelsMost (titleAt es i)) slice r after
-      → ExpansionFilled (mappingOf es pool) c slice (record { octets = r .octets; asks = r .asks + 1 }) after
-  filled-entry slice r after w =
-      record { counted = counted-entry r (w .counted); written = rw (ap (titleIn es c) e) (w .written) }
+  pub filled-title : (slice : List ℕ) (r : Unfolded) (after : List ℕ)
+      → Filled (full m levelsMost x) (asks m levelsMost x) slice r after
+      → ExpansionFilled m c slice (record { octets = r .octets; asks = r .asks + 1 }) after
+  filled-title slice r after w = record { counted = counted-title r (w .counted); written = rw e (w .written) }
 
-  -- a titlecase with no parts stays as it is
-  pub expanded-title : partsOf es pool (titleAt es i) ≡ [] → expanded (mappingOf es pool) c ≡ encode (titleAt es i)
-  expanded-title p = expanded-entry ∙ encodes-whole (mappingOf es pool) levelsMost (titleAt es i) p
+  -- ---- a titlecase with no parts
 
-  -- and is what was written, for two asks
-  pub filled-title : partsOf es pool (titleAt es i) ≡ [] → (slice : List ℕ) (k : ℕ) (after : List ℕ)
-      → Written (titleAt es i) slice k after
-      → ExpansionFilled (mappingOf es pool) c slice (record { octets = k; asks = 2 }) after
-  filled-title p slice k after w =
-      filled-entry slice (record { octets = k; asks = 1 }) after
-      (filled-whole (mappingOf es pool) levelsMost (titleAt es i) p slice k after w)
+  module _ (p : m .parts x ≡ []) where
+    -- it stays as it is
+    pub expanded-plain : expanded m c ≡ encode x
+    expanded-plain = expanded-title ∙ encodes-whole m levelsMost x p
+
+    -- for two asks
+    pub counted-plain : (k : ℕ) → k ≡ length (encode x) → ExpansionCounted m c (record { octets = k; asks = 2 })
+    counted-plain k h = counted-title (record { octets = k; asks = 1 }) (counted-whole m levelsMost x p k h)
+
+    -- and is what was written
+    pub filled-plain : (slice : List ℕ) (k : ℕ) (after : List ℕ) → Written x slice k after
+        → ExpansionFilled m c slice (record { octets = k; asks = 2 }) after
+    filled-plain slice k after w =
+        filled-title slice (record { octets = k; asks = 1 }) after (filled-whole m levelsMost x p slice k after w)

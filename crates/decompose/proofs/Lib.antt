@@ -5,4 +5,4 @@ pub mod Unfolding
 pub mod Walk
 pub mod Expansion
 pub mod Demand3
-pub mod Defaults
+pub mod Unreached

@@ -2,7 +2,7 @@
 -- more, done, stop.
 -- Assumes nothing.
 use mathlib.Core.Path.{_≡_, refl, sym, ap, _∙_}
-use Prim.Native.Nat.{ℕ, zero, suc, _+_, _-_, _≤_, _<_}
+use Prim.Native.Nat.{ℕ, _+_, _-_, _≤_, _<_}
 use native.Mathlib.Omega.{arith}
 use mathlib.Core.Bool.{Bool, true, false, _&&_}
 use mathlib.Core.Option.{Option, none, some}
@@ -16,21 +16,21 @@ use Rattle.terms.proofs.Lists.{all-at, all-take-more, each-take-more, length-ea
 use Rattle.terms.proofs.Tests.{none-some}
 use Rattle.table.specs.Mapping.{Mapping}
 use Rattle.decompose.specs.Levels.{within, full}
-use Rattle.decompose.specs.Promises.{measured}
-use Rattle.decompose.proofs.Walk.{Split, fulls, within-parts, full-parts, within-none}
+use Rattle.decompose.specs.Promises.{measured, Split}
+use Rattle.decompose.proofs.Walk.{fulls, within-parts, full-parts, within-none}
 
 -- the parts are measured, as a code point is
 abbrev pub measuredParts : Mapping → ℕ → ℕ → List ℕ → Option ℕ
 measuredParts m n room ps = when (all (λ p. within m n p) ps && leb (length (fulls m n ps)) room) (length (fulls m n ps))
 
 -- a code point that decomposes is measured by its parts
-pub measured-parts : (m : Mapping) (n room c : ℕ) (ps : List ℕ) → 1 ≤ n → Split m c ps
+pub measured-parts : {m : Mapping} {c : ℕ} {ps : List ℕ} → Split m c ps → (n room : ℕ) → 1 ≤ n
     → measured m n room c ≡ measuredParts m (n - 1) room ps
-measured-parts m n room c ps h s = rw (within-parts m n c ps h s, full-parts m n c ps h s)
+measured-parts s n room h = rw (within-parts s n h, full-parts s n h)
 
 -- with no level left it is too much
-pub measured-none : (m : Mapping) (room c : ℕ) (ps : List ℕ) → Split m c ps → measured m 0 room c ≡ none
-measured-none m room c ps s = rw (within-none m c ps s)
+pub measured-none : {m : Mapping} {c : ℕ} {ps : List ℕ} → Split m c ps → (room : ℕ) → measured m 0 room c ≡ none
+measured-none s room = rw (within-none s)
 
 -- the first i parts are within n levels and come to `count` code points, for which there is room
 pub record Measuring (m : Mapping) (n : ℕ) (ps : List ℕ) (room count i : ℕ) : Type 0 where
@@ -40,9 +40,9 @@ pub record Measuring (m : Mapping) (n : ℕ) (ps : List ℕ) (room count i : ℕ
   pub fits : count ≤ room
 
 -- before the first part
-pub measuring-start : (m : Mapping) (n : ℕ) (ps : List ℕ) (room : ℕ) → Measuring m n ps room 0 0
+pub measuring-start : {m : Mapping} {n : ℕ} {ps : List ℕ} {room : ℕ} → Measuring m n ps room 0 0
 unfolding each
-measuring-start m n ps room = record { passed = omega arith; level = refl; size = refl; fits = omega arith }
+measuring-start = record { passed = omega arith; level = refl; size = refl; fits = omega arith }
 
 -- a measurement that fits: within the levels, and how many code points
 measured-some : (m : Mapping) (n room c k : ℕ) → measured m n room c ≡ some k
@@ -59,11 +59,11 @@ measured-some m n room c k e = go (within m n c) (leb (length (full m n c)) room
     go false b p q r = absurd (none-some k r)
 
 -- one part more
-pub measuring-more : (m : Mapping) (n : ℕ) (ps : List ℕ) (room count i k : ℕ) → Measuring m n ps room count i
+pub measuring-more : {m : Mapping} {n : ℕ} {ps : List ℕ} {room count i k : ℕ} → Measuring m n ps room count i
     → i < length ps
     → measured m n (room - count) (getD ps i 0) ≡ some k
     → Measuring m n ps room (count + k) (i + 1)
-measuring-more m n ps room count i k w l e =
+measuring-more {m} {n} {ps} {room} {count} {i} {k} w l e =
     let part = measured-some m n (room - count) (getD ps i 0) k e in
     record {
       passed = omega arith;
@@ -78,21 +78,21 @@ measuring-more m n ps room count i k w l e =
     }
 
 -- every part was measured
-pub measuring-done : (m : Mapping) (n : ℕ) (ps : List ℕ) (room count i : ℕ) → Measuring m n ps room count i
+pub measuring-done : {m : Mapping} {n : ℕ} {ps : List ℕ} {room count i : ℕ} → Measuring m n ps room count i
     → length ps ≤ i
     → some count ≡ measuredParts m n room ps
-measuring-done m n ps room count i w l =
+measuring-done {m} {n} {ps} {room} {count} {i} w l =
     let whole = take-all i ps l in
     let level : all (λ p. within m n p) ps ≡ true = rw whole at (w .level) in
     let size : length (fulls m n ps) ≡ count = sym (rw whole at (w .size)) in
     rw (level, size, le-leb count room (w .fits))
 
 -- a part that is too much is too much for all
-pub measuring-stop : (m : Mapping) (n : ℕ) (ps : List ℕ) (room count i : ℕ) → Measuring m n ps room count i
+pub measuring-stop : {m : Mapping} {n : ℕ} {ps : List ℕ} {room count i : ℕ} → Measuring m n ps room count i
     → i < length ps
     → measured m n (room - count) (getD ps i 0) ≡ none
     → none ≡ measuredParts m n room ps
-measuring-stop m n ps room count i w l e =
+measuring-stop {m} {n} {ps} {room} {count} {i} w l e =
     go (all (λ p. within m n p) ps) (leb (length (fulls m n ps)) room) refl refl
   where
     go : (a b : Bool) → all (λ p. within m n p) ps ≡ a → leb (length (fulls m n ps)) room ≡ b

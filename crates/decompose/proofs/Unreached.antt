@@ -1,13 +1,12 @@
--- Where a definition of the crate has a default, it is never reached where a contract cites it: the levels left run out for no
--- code point that has a level of at most so many, and so for none of an accepted table.
+-- No default of a definition is reached where a contract cites it: the levels left run out for no code point that has a level of at
+-- most so many, and so for none of an accepted table.
 -- Assumes nothing.
 use mathlib.Core.Path.{_≡_}
 use Prim.Native.Nat.{ℕ, _≤_}
 use mathlib.Core.Option.{none}
-use mathlib.Core.List.{List}
 use Rattle.terms.specs.Refusals.{levelsMost}
 use Rattle.table.specs.Mapping.{Mapping}
-use Rattle.table.specs.Table.{mappingOf}
+use Rattle.table.specs.Table.{Table, mappingOf}
 use Rattle.decompose.specs.Levels.{Level, full, asks}
 use Rattle.decompose.specs.TableCheck.{tableRefusal}
 use Rattle.decompose.proofs.Levels.{level→within, full-same, asks-same}
@@ -23,15 +22,15 @@ module _ (m : Mapping) {c l : ℕ} (level : Level m c l) (n k : ℕ) (enough : l
   pub level-asks : asks m k c ≡ asks m n c
   level-asks = asks-same m n k c (level→within m level n enough) more
 
-module _ (es pool : List ℕ) (e : tableRefusal es pool ≡ none) (k : ℕ) (more : levelsMost ≤ k) (c : ℕ) where
+module _ (t : Table) (e : tableRefusal t ≡ none) (k : ℕ) (more : levelsMost ≤ k) (c : ℕ) where
   -- the number 8 cuts nothing off in an accepted table: more levels change nothing of a full decomposition
-  pub accepted-full-same : full (mappingOf es pool) k c ≡ full (mappingOf es pool) levelsMost c
+  pub accepted-full-same : full (mappingOf t) k c ≡ full (mappingOf t) levelsMost c
   accepted-full-same =
-      let m = mappingOf es pool in
-      full-same m levelsMost k c (bounded-unfolds m c (accepted-all es pool e c) .level) more
+      let m = mappingOf t in
+      full-same m levelsMost k c (bounded-unfolds m c (accepted-all t e c) .level) more
 
   -- nor of the asks
-  pub accepted-asks-same : asks (mappingOf es pool) k c ≡ asks (mappingOf es pool) levelsMost c
+  pub accepted-asks-same : asks (mappingOf t) k c ≡ asks (mappingOf t) levelsMost c
   accepted-asks-same =
-      let m = mappingOf es pool in
-      asks-same m levelsMost k c (bounded-unfolds m c (accepted-all es pool e c) .level) more
+      let m = mappingOf t in
+      asks-same m levelsMost k c (bounded-unfolds m c (accepted-all t e c) .level) more

@@ -7,11 +7,10 @@ use native.Mathlib.Nat.{mul-le-mul}
 use native.Mathlib.Numerals.{sub-one}
 use native.Mathlib.Omega.{arith}
 use mathlib.Core.Bool.{true, false}
-use mathlib.Core.Option.{some}
 use mathlib.Core.List.{List, [], _∷_, append-nil}
 use lib.Dec.{leb}
 use lib.ListN.{length, getD, take, length-append}
-use Rattle.terms.specs.Lists.{all, each, total, when, over}
+use Rattle.terms.specs.Lists.{all, empty, each, total, when, over}
 use Rattle.terms.specs.Refusals.{levelsMost, fullMost}
 use Rattle.terms.proofs.Lists.{all-at, each-take-more, length-each-take}
 use Rattle.terms.proofs.Tests.{both}
@@ -20,7 +19,7 @@ use Rattle.utf8.specs.Utf8.{encode, encodes}
 use Rattle.utf8.specs.Promises.{Written}
 use Rattle.decompose.specs.Levels.{within, full, asks}
 use Rattle.decompose.specs.TableCheck.{unfolds}
-use Rattle.decompose.specs.Promises.{measured, Bounded, Counted, Filled}
+use Rattle.decompose.specs.Promises.{measured, Split, Bounded, Counted, Filled}
 use Rattle.decompose.proofs.Levels.{within-whole, full-whole, asks-whole}
 use Rattle.decompose.proofs.Bounds.{asks-most, length-encodes, full-most}
 
@@ -63,41 +62,42 @@ filled-whole m n c e slice k after w = record {
 
 -- ---- a code point that decomposes
 
--- the parts of a code point, of which there are some
-pub record Split (m : Mapping) (c : ℕ) (ps : List ℕ) : Type 0 where
-  pub parts : ps ≡ m .parts c
-  pub some : length ps ≡ 0 → ⊥
+-- parts were found
+pub parts-some : {m : Mapping} {c : ℕ} {ps : List ℕ} → ps ≡ m .parts c → (length ps ≡ 0 → ⊥) → Split m c ps
+parts-some e h = record { parts = e; some = omega arith }
 
 -- the full decompositions of parts, one after another
 abbrev pub fulls : Mapping → ℕ → List ℕ → List ℕ
 fulls m n ps = each (λ p. full m n p) ps
 
--- within n levels are its parts within one less
-pub within-parts : (m : Mapping) (n c : ℕ) (ps : List ℕ) → 1 ≤ n → Split m c ps
-    → within m n c ≡ all (λ p. within m (n - 1) p) ps
-unfolding within
-within-parts m zero c ps h s = absurd (omega arith)
-within-parts m (suc n) c ps h s = rw (sub-one (suc n), s .parts)
+-- its parts are not empty
+empty-some : (ps : List ℕ) → 0 < length ps → empty ps ≡ false
+empty-some [] h = absurd (omega arith)
+empty-some (p ∷ ps) h = refl
 
--- its full decomposition is that of its parts
-pub full-parts : (m : Mapping) (n c : ℕ) (ps : List ℕ) → 1 ≤ n → Split m c ps → full m n c ≡ fulls m (n - 1) ps
-unfolding full
-full-parts m zero c ps h s = absurd (omega arith)
-full-parts m (suc n) c [] h s = absurd (s .some refl)
-full-parts m (suc n) c (p ∷ ps) h s = rw (sub-one (suc n), ← s .parts)
+module _ {m : Mapping} {c : ℕ} {ps : List ℕ} (s : Split m c ps) where
+  -- within n levels are its parts within one less
+  pub within-parts : (n : ℕ) → 1 ≤ n → within m n c ≡ all (λ p. within m (n - 1) p) ps
+  unfolding within
+  within-parts zero h = absurd (omega arith)
+  within-parts (suc n) h = rw (sub-one (suc n), s .parts)
 
--- and its asks are one and those of its parts
-pub asks-parts : (m : Mapping) (n c : ℕ) (ps : List ℕ) → 1 ≤ n → Split m c ps
-    → asks m n c ≡ suc (total (λ p. asks m (n - 1) p) ps)
-unfolding asks
-asks-parts m zero c ps h s = absurd (omega arith)
-asks-parts m (suc n) c ps h s = rw (sub-one (suc n), s .parts)
+  -- its full decomposition is that of its parts
+  pub full-parts : (n : ℕ) → 1 ≤ n → full m n c ≡ fulls m (n - 1) ps
+  unfolding full
+  full-parts zero h = absurd (omega arith)
+  full-parts (suc n) h = rw (sub-one (suc n), ← s .parts, empty-some ps (s .some))
 
--- it is within no levels
-pub within-none : (m : Mapping) (c : ℕ) (ps : List ℕ) → Split m c ps → within m 0 c ≡ false
-unfolding within
-within-none m c [] s = absurd (s .some refl)
-within-none m c (p ∷ ps) s = rw (← s .parts)
+  -- and its asks are one and those of its parts
+  pub asks-parts : (n : ℕ) → 1 ≤ n → asks m n c ≡ suc (total (λ p. asks m (n - 1) p) ps)
+  unfolding asks
+  asks-parts zero h = absurd (omega arith)
+  asks-parts (suc n) h = rw (sub-one (suc n), s .parts)
+
+  -- it is within no levels
+  pub within-none : within m 0 c ≡ false
+  unfolding within
+  within-none = rw (← s .parts) (empty-some ps (s .some))
 
 -- ---- bounds
 
@@ -109,15 +109,6 @@ bounded-unfolds m c e = record {
   size = full-most m c e;
 }
 
--- a bounded code point that decomposes has a level left
-pub bounded-levels : (m : Mapping) (n c : ℕ) (ps : List ℕ) → Bounded m n c → Split m c ps → 1 ≤ n
-bounded-levels m zero c ps b s =
-    let fails = within-none m c ps s in
-    let holds = b .level in
-    let z : _≡_ {A = ℕ} 0 1 = cc in
-    omega arith
-bounded-levels m (suc n) c ps b s = omega arith
-
 -- a part's full decomposition is no longer than all together
 part-most : (f : ℕ → List ℕ) (ps : List ℕ) (i : ℕ) → i < length ps → length (f (getD ps i 0)) ≤ length (each f ps)
 part-most f ps i l =
@@ -128,21 +119,33 @@ part-most f ps i l =
       length-append (each f (take i ps)) (f (getD ps i 0)),
     )
 
--- the parts of a bounded code point are bounded, one level down
-pub bounded-part : (m : Mapping) (n c : ℕ) (ps : List ℕ) (i : ℕ) → Bounded m n c → Split m c ps → i < length ps
+module _ {m : Mapping} {n c : ℕ} (b : Bounded m n c) where
+  -- a bounded code point becomes at most 128 octets
+  pub bounded-octets : length (encodes (full m n c)) ≤ 128
+  bounded-octets = omega (arith, length-encodes (full m n c), b .size)
+
+  -- and takes at most 257 asks
+  pub bounded-asks : asks m n c ≤ 257
+  bounded-asks = omega (arith, asks-most m n c, mul-le-mul (b .levels) (b .size))
+
+-- one that decomposes has a level left
+some-levels : {m : Mapping} {c : ℕ} {ps : List ℕ} → Split m c ps → (n : ℕ) → within m n c ≡ true → 1 ≤ n
+some-levels s zero holds =
+    let fails = within-none s in
+    let z : _≡_ {A = ℕ} 0 1 = cc in
+    omega arith
+some-levels s (suc n) holds = omega arith
+
+pub bounded-levels : {m : Mapping} {n c : ℕ} {ps : List ℕ} → Bounded m n c → Split m c ps → 1 ≤ n
+bounded-levels {n = n} b s = some-levels s n (b .level)
+
+-- and its parts are bounded, one level down
+pub bounded-part : {m : Mapping} {n c : ℕ} {ps : List ℕ} → Bounded m n c → Split m c ps → (i : ℕ) → i < length ps
     → Bounded m (n - 1) (getD ps i 0)
-bounded-part m n c ps i b s l =
-    let h = bounded-levels m n c ps b s in
+bounded-part {m} {n} {c} {ps} b s i l =
+    let h = bounded-levels b s in
     record {
       levels = omega (arith, b .levels);
-      level = all-at (λ p. within m (n - 1) p) ps i 0 (sym (within-parts m n c ps h s) ∙ b .level) l;
-      size = omega (arith, part-most (λ p. full m (n - 1) p) ps i l, ap length (full-parts m n c ps h s), b .size);
+      level = all-at (λ p. within m (n - 1) p) ps i 0 (sym (within-parts s n h) ∙ b .level) l;
+      size = omega (arith, part-most (λ p. full m (n - 1) p) ps i l, ap length (full-parts s n h), b .size);
     }
-
--- a bounded code point becomes at most 128 octets
-pub bounded-octets : (m : Mapping) (n c : ℕ) → Bounded m n c → length (encodes (full m n c)) ≤ 128
-bounded-octets m n c b = omega (arith, length-encodes (full m n c), b .size)
-
--- and takes at most 257 asks
-pub bounded-asks : (m : Mapping) (n c : ℕ) → Bounded m n c → asks m n c ≤ 257
-bounded-asks m n c b = omega (arith, asks-most m n c, mul-le-mul (b .levels) (b .size))

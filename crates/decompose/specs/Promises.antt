@@ -1,7 +1,7 @@
 -- What the contracts of the crate say with the definitions of the other files.
 -- Assumes nothing.
 use mathlib.Core.Path.{_≡_}
-use Prim.Native.Nat.{ℕ, _≤_}
+use Prim.Native.Nat.{ℕ, _≤_, _<_}
 use mathlib.Core.Bool.{true, _&&_}
 use mathlib.Core.Option.{Option, none, some}
 use mathlib.Core.List.{List}
@@ -25,6 +25,11 @@ measured m n room c = when (within m n c && leb (length (full m n c)) room) (len
 abbrev pub measuredSize : Measurement → Option ℕ
 measuredSize (Fits k) = some k
 measuredSize TooMuch = none
+
+-- the parts of a code point, of which there are some
+pub record Split (m : Mapping) (c : ℕ) (ps : List ℕ) : Type 0 where
+  pub parts : ps ≡ m .parts c
+  pub some : 0 < length ps
 
 -- a code point unfolds within n of the 8 levels into at most 32 code points: what unfolding it asks for
 pub record Bounded (m : Mapping) (n c : ℕ) : Type 0 where

@@ -5,25 +5,26 @@
 // code points or 8 levels, and every code point that is looked up either takes one of the 32 or is split into ones that do;
 // so on each of the levels 0 to 8 at most 33 are looked up, some 300 in all.
 // The functions on one expansion ask for an accepted table.
+mod depth;
+
 use table::Place;
-use table::TableCheck;
+use table::layout;
+use terms::Check;
 use terms::CodePoint;
 ghost use mathlib.Core.Path.{_≡_};
 ghost use mathlib.Core.Bool.{true};
-ghost use mathlib.Core.List.{[]};
 ghost use mathlib.Core.Option.{none, some};
-ghost use Prim.Native.Nat.{_<_, _≤_};
+ghost use Prim.Native.Nat.{_≤_};
 ghost use lib.ListN.{length};
 ghost use Rattle.terms.specs.CodePoints.{scalar};
-ghost use Rattle.terms.specs.Lists.{lowest};
-ghost use Rattle.terms.specs.Refusals.{answer};
+ghost use Rattle.terms.specs.Refusals.{checkOutcome};
 ghost use Rattle.utf8.specs.Utf8.{encodes};
-ghost use Rattle.table.specs.Table.{entryCount, titleAt, refusedAt, formRefusal, entryOf, partsOf, mappingOf};
-ghost use Rattle.table.specs.Promises.{checkOutcome};
+ghost use Rattle.table.specs.Layout.{titleAt};
+ghost use Rattle.table.specs.Table.{table, formRefusal, entryOf, partsOf, mappingOf};
 ghost use Rattle.decompose.specs.Levels.{full};
 ghost use Rattle.decompose.specs.Steps.{expanded};
-ghost use Rattle.decompose.specs.TableCheck.{faultyLevel, tableRefusal, tableAnswer};
-ghost use Rattle.decompose.specs.Promises.{measured, measuredSize, Bounded, FullCounted, FullFilled, ExpansionCounted, ExpansionFilled};
+ghost use Rattle.decompose.specs.TableCheck.{tableRefusal, tableAnswer};
+ghost use Rattle.decompose.specs.Promises.{Split, Bounded, FullCounted, FullFilled, ExpansionCounted, ExpansionFilled};
 
 // How many code points a code point unfolds into.
 pub enum Measurement {
@@ -39,20 +40,20 @@ pub struct Unfolded {
 }
 
 // Whether a table is accepted, or which of 3 to 7 refuses it.
-pub fn check_table(entries: &[u32], pool: &[u32]) -> TableCheck
-    ensures { λ r. ⌜ checkOutcome r ≡ tableAnswer (now (entries .entry)) (now (pool .entry)) ⌝ }
+pub fn check_table(entries: &[u32], pool: &[u32]) -> Check
+    ensures { λ r. ⌜ checkOutcome r ≡ tableAnswer (table (now (entries .entry)) (now (pool .entry))) ⌝ }
 {
     let form = table::check_form(entries, pool);
     match form {
-        TableCheck::Accepted => check_levels(entries, pool),
-        TableCheck::Refused(r) => TableCheck::Refused(r),
+        Check::Passed => depth::check_levels(entries, pool),
+        Check::Refused(r) => Check::Refused(r),
     }
 }
 
 // The octets of a code point's expansion, and the lookups for it.
 pub fn size_expansion(c: CodePoint, entries: &[u32], pool: &[u32]) -> Unfolded
-    requires { ⌜ tableRefusal (now entries) (now pool) ≡ none ⌝ }
-    ensures { λ r. ⌜ ExpansionCounted (mappingOf (now (entries .entry)) (now (pool .entry))) (c .0) r ⌝ }
+    requires { ⌜ tableRefusal (table (now entries) (now pool)) ≡ none ⌝ }
+    ensures { λ r. ⌜ ExpansionCounted (mappingOf (table (now (entries .entry)) (now (pool .entry)))) (c .0) r ⌝ }
 {
     let Place::At(i) = table::find_entry(entries, c) else {
         // A code point without an entry maps to itself: the two asks are known without a second search.
@@ -61,7 +62,7 @@ pub fn size_expansion(c: CodePoint, entries: &[u32], pool: &[u32]) -> Unfolded
             asks: 2,
         };
     };
-    let title = CodePoint(entries[i * 4 + 1]);
+    let title = CodePoint(layout::title_at(entries, i));
     let parts = title_parts(c, i, entries, pool);
     if parts.len() == 0 {
         let octets = utf8::octet_count(title);
@@ -76,16 +77,16 @@ pub fn size_expansion(c: CodePoint, entries: &[u32], pool: &[u32]) -> Unfolded
 
 // Writes a code point's expansion at the start of a slice that has room for it.
 pub fn write_expansion(c: CodePoint, entries: &[u32], pool: &[u32], out: &mut [u8]) -> Unfolded
-    requires { ⌜ tableRefusal (now entries) (now pool) ≡ none ⌝ }
+    requires { ⌜ tableRefusal (table (now entries) (now pool)) ≡ none ⌝ }
     requires { ⌜ scalar (c .0) ≡ true ⌝ }
-    requires { ⌜ length (expanded (mappingOf (now entries) (now pool)) (c .0)) ≤ length (now out) ⌝ }
-    ensures { λ r. ⌜ ExpansionFilled (mappingOf (now (entries .entry)) (now (pool .entry))) (c .0) (now (out .entry)) r (now (out .exit)) ⌝ }
+    requires { ⌜ length (expanded (mappingOf (table (now entries) (now pool))) (c .0)) ≤ length (now out) ⌝ }
+    ensures { λ r. ⌜ ExpansionFilled (mappingOf (table (now (entries .entry)) (now (pool .entry)))) (c .0) (now (out .entry)) r (now (out .exit)) ⌝ }
 {
     let Place::At(i) = table::find_entry(entries, c) else {
         let octets = utf8::write_character(c, out);
         return Unfolded { octets, asks: 2 };
     };
-    let title = CodePoint(entries[i * 4 + 1]);
+    let title = CodePoint(layout::title_at(entries, i));
     let parts = title_parts(c, i, entries, pool);
     if parts.len() == 0 {
         let octets = utf8::write_character(title, out);
@@ -100,86 +101,15 @@ pub fn write_expansion(c: CodePoint, entries: &[u32], pool: &[u32], out: &mut [u
 
 // The decomposition of the titlecase of a code point's entry: what the entry itself says, if that is the code point.
 fn title_parts<'a>(c: CodePoint, i: usize, entries: &[u32], pool: &'a [u32]) -> &'a [u32]
-    requires { ⌜ formRefusal (now entries) (now pool) ≡ none ⌝ }
+    requires { ⌜ formRefusal (table (now entries) (now pool)) ≡ none ⌝ }
     requires { ⌜ entryOf (now entries) (c .0) ≡ some i ⌝ }
-    ensures { λ r. ⌜ now r ≡ partsOf (now (entries .entry)) (now (pool .entry)) (titleAt (now (entries .entry)) i) ⌝ }
+    ensures { λ r. ⌜ now r ≡ partsOf (table (now (entries .entry)) (now (pool .entry))) (titleAt (now (entries .entry)) i) ⌝ }
 {
-    let title = entries[i * 4 + 1];
+    let title = layout::title_at(entries, i);
     if title == c.0 {
         return table::parts_at(entries, pool, i);
     }
     table::parts_of(entries, pool, CodePoint(title))
-}
-
-// Whether 7 refuses a table of the form.
-fn check_levels(entries: &[u32], pool: &[u32]) -> TableCheck
-    requires { ⌜ formRefusal (now entries) (now pool) ≡ none ⌝ }
-    ensures { λ r. ⌜ checkOutcome r ≡ answer (refusedAt 7 (lowest (faultyLevel (now (entries .entry)) (now (pool .entry))) (entryCount (now (entries .entry))))) [] ⌝ }
-{
-    let mut i = 0;
-    while i < entries.len() / 4 {
-        let parts = table::parts_at(entries, pool, i);
-        // A code point with no parts unfolds into itself.
-        if parts.len() != 0 {
-            let measurement = measure(
-                terms::LEVELS_MOST,
-                CodePoint(entries[i * 4]),
-                parts,
-                terms::FULL_MOST,
-                entries,
-                pool,
-            );
-            if let Measurement::TooMuch = measurement {
-                return table::refused_at(terms::REFUSED_LEVEL, i);
-            }
-        }
-        i += 1;
-    }
-    TableCheck::Accepted
-}
-
-// How many code points a code point that has these parts unfolds into, if within the levels left and into at most `room`.
-fn measure(
-    levels_left: usize,
-    c: CodePoint,
-    parts: &[u32],
-    room: usize,
-    entries: &[u32],
-    pool: &[u32],
-) -> Measurement
-    requires { ⌜ formRefusal (now entries) (now pool) ≡ none ⌝ }
-    requires { ⌜ now parts ≡ partsOf (now entries) (now pool) (c .0) ⌝ }
-    requires { ⌜ 0 < length (now parts) ⌝ }
-    ensures { λ r. ⌜ measuredSize r ≡ measured (mappingOf (now (entries .entry)) (now (pool .entry))) «levels_left» room (c .0) ⌝ }
-{
-    if levels_left == 0 {
-        return Measurement::TooMuch;
-    }
-    let mut total = 0;
-    let mut i = 0;
-    while i < parts.len() {
-        let part = CodePoint(parts[i]);
-        let inner = table::parts_of(entries, pool, part);
-        // Most parts are whole, and a call costs more than counting one.
-        if inner.len() == 0 {
-            if total == room {
-                return Measurement::TooMuch;
-            }
-            total += 1;
-        } else {
-            let measurement = measure(levels_left - 1, part, inner, room - total, entries, pool);
-            match measurement {
-                Measurement::Fits(n) => {
-                    total += n;
-                }
-                Measurement::TooMuch => {
-                    return Measurement::TooMuch;
-                }
-            }
-        }
-        i += 1;
-    }
-    Measurement::Fits(total)
 }
 
 // The octets of the full decomposition of a code point that has these parts, and the asks of its unfolding.
@@ -190,11 +120,10 @@ fn size_unfolded(
     entries: &[u32],
     pool: &[u32],
 ) -> Unfolded
-    requires { ⌜ formRefusal (now entries) (now pool) ≡ none ⌝ }
-    requires { ⌜ now parts ≡ partsOf (now entries) (now pool) (c .0) ⌝ }
-    requires { ⌜ 0 < length (now parts) ⌝ }
-    requires { ⌜ Bounded (mappingOf (now entries) (now pool)) «levels_left» (c .0) ⌝ }
-    ensures { λ r. ⌜ FullCounted (mappingOf (now (entries .entry)) (now (pool .entry))) «levels_left» (c .0) r ⌝ }
+    requires { ⌜ formRefusal (table (now entries) (now pool)) ≡ none ⌝ }
+    requires { ⌜ Split (mappingOf (table (now entries) (now pool))) (c .0) (now parts) ⌝ }
+    requires { ⌜ Bounded (mappingOf (table (now entries) (now pool))) «levels_left» (c .0) ⌝ }
+    ensures { λ r. ⌜ FullCounted (mappingOf (table (now (entries .entry)) (now (pool .entry)))) «levels_left» (c .0) r ⌝ }
 {
     let mut octets = 0;
     let mut asked: u64 = 1;
@@ -228,13 +157,12 @@ fn write_unfolded(
     pool: &[u32],
     out: &mut [u8],
 ) -> Unfolded
-    requires { ⌜ formRefusal (now entries) (now pool) ≡ none ⌝ }
-    requires { ⌜ now parts ≡ partsOf (now entries) (now pool) (c .0) ⌝ }
-    requires { ⌜ 0 < length (now parts) ⌝ }
+    requires { ⌜ formRefusal (table (now entries) (now pool)) ≡ none ⌝ }
+    requires { ⌜ Split (mappingOf (table (now entries) (now pool))) (c .0) (now parts) ⌝ }
     requires { ⌜ scalar (c .0) ≡ true ⌝ }
-    requires { ⌜ Bounded (mappingOf (now entries) (now pool)) «levels_left» (c .0) ⌝ }
-    requires { ⌜ length (encodes (full (mappingOf (now entries) (now pool)) «levels_left» (c .0))) ≤ length (now out) ⌝ }
-    ensures { λ r. ⌜ FullFilled (mappingOf (now (entries .entry)) (now (pool .entry))) «levels_left» (c .0) (now (out .entry)) r (now (out .exit)) ⌝ }
+    requires { ⌜ Bounded (mappingOf (table (now entries) (now pool))) «levels_left» (c .0) ⌝ }
+    requires { ⌜ length (encodes (full (mappingOf (table (now entries) (now pool))) «levels_left» (c .0))) ≤ length (now out) ⌝ }
+    ensures { λ r. ⌜ FullFilled (mappingOf (table (now (entries .entry)) (now (pool .entry)))) «levels_left» (c .0) (now (out .entry)) r (now (out .exit)) ⌝ }
 {
     let mut at = 0;
     let mut asks: u64 = 1;

@@ -7,11 +7,11 @@ use mathlib.Core.Logic.{⊎-elim}
 use lib.ListN.{length, getD}
 use borrow.Author.Needs.{needs}
 use Rattle.table.specs.Mapping.{Mapping}
-use Rattle.table.specs.Table.{mappingOf}
+use Rattle.table.specs.Table.{table, mappingOf}
 use Rattle.decompose.specs.Promises.{FullCounted}
 use Rattle.decompose.specs.declared.Unfolded.{Unfolded}
-use Rattle.decompose.proofs.Walk.{parts-none, counted-whole, Split, bounded-levels, bounded-part, bounded-octets, bounded-asks}
-use Rattle.decompose.proofs.Unfolding.{Sizing, sizing-start, sizing-more, sizing-done, sizing-octets, sizing-asked}
+use Rattle.decompose.proofs.Walk.{parts-none, counted-whole, parts-some, bounded-levels, bounded-part}
+use Rattle.decompose.proofs.Unfolding.{Sizing, sizing-start, sizing-more, sizing-done, sizing-few}
 use borrow.Fn.Kinds.{In, Out}
 use borrow.Fn.PlainCycle.{Measures, is, falls, and}
 use Rattle.decompose.proofs.size_unfolded.Reads as reads
@@ -38,7 +38,7 @@ claims t = (parts-of-reads.Asked, parts-of-reads.Learnt, octet-count-reads.Asked
 
 abbrev Inv-loop : lts.InvT-loop
 Inv-loop levels-left parts entries pool octets₀ asked₀ i₀ octets asked i =
-    Sizing (mappingOf entries pool) (levels-left - 1) parts octets asked i
+    Sizing (mappingOf (table entries pool)) (levels-left - 1) parts octets asked i
 
 abbrev μ-loop : lts.MeasureT-loop
 μ-loop levels-left parts entries pool octets₀ asked₀ i₀ octets asked i = length parts - i
@@ -47,17 +47,12 @@ abbrev μ-loop : lts.MeasureT-loop
 abbrev Of : ℕ → (lts.Claims → In 3 kinds.ps → Out 3 kinds.ps kinds.r → lts.InvT-loop → lts.MeasureT-loop → Type 0) → Type 0
 Of t F = F (claims t) (at t) reads.Post Inv-loop μ-loop
 
--- at the function's entry: the mapping of the table
+-- at the function's entry: the mapping of the table, and that a level is left
 abbrev mapping : (t : ℕ) → Of t lts.Start → Mapping
-mapping t s = mappingOf (s .args .entries .now) (s .args .pool .now)
+mapping t s = mappingOf (table (s .args .entries .now) (s .args .pool .now))
 
--- its parts are those of the code point
-split : (t : ℕ) (s : Of t lts.Start) → Split (mapping t s) (s .args .c .0) (s .args .parts .now)
-split t s = record { parts = s .pre .1 .1 .0; some = λ none. omega (arith, s .pre .1 .1 .1 .0) }
-
--- and a level is left
 level : (t : ℕ) (s : Of t lts.Start) → 1 ≤ s .args .levels-left
-level t s = bounded-levels (mapping t s) (s .args .levels-left) (s .args .c .0) _ (s .pre .1 .1 .1 .1) (split t s)
+level t s = let p = s .pre .1 .1 in bounded-levels (p .1) (p .0)
 
 -- where a part was looked up: the loop's head, and the function's entry
 abbrev head : (t : ℕ) → Of t lts.After-parts-of → Of t lts.At-loop
@@ -80,30 +75,12 @@ more : (t : ℕ) (c : Of t lts.After-parts-of) (r : Unfolded) → Part t c r
     (l .loop .octets + r .octets)
     (l .loop .asked + r .asks)
     (l .loop .i + 1)
-more t c r part =
-    let l = head t c in
-    let s = start t c in
-    sizing-more (mapping t s) (s .args .levels-left - 1) (s .args .parts .now)
-    (l .loop .octets) (l .loop .asked) (l .loop .i) r (l .loop .inv) (c .before .before .loop-test .taken) part
+more t c r part = sizing-more (head t c .loop .inv) (c .before .before .loop-test .taken) part
 
--- the octets are at most 128, and the asks at most 257
-octets-most : (t : ℕ) (c : Of t lts.After-parts-of) (r : Unfolded) → Part t c r → head t c .loop .octets + r .octets ≤ 128
-octets-most t c r part =
-    let s = start t c in
-    omega (
-      arith,
-      sizing-octets (mapping t s) (s .args .levels-left) (s .args .c .0) _ _ _ _ (level t s) (split t s) (more t c r part),
-      bounded-octets (mapping t s) (s .args .levels-left) (s .args .c .0) (s .pre .1 .1 .1 .1),
-    )
-
-asks-few : (t : ℕ) (c : Of t lts.After-parts-of) (r : Unfolded) → Part t c r → head t c .loop .asked + r .asks ≤ 257
-asks-few t c r part =
-    let s = start t c in
-    omega (
-      arith,
-      sizing-asked (mapping t s) (s .args .levels-left) (s .args .c .0) _ _ _ _ (level t s) (split t s) (more t c r part),
-      bounded-asks (mapping t s) (s .args .levels-left) (s .args .c .0) (s .pre .1 .1 .1 .1),
-    )
+-- to few octets and few asks
+few : (t : ℕ) (c : Of t lts.After-parts-of) (r : Unfolded) → Part t c r
+    → (head t c .loop .octets + r .octets ≤ 128) × (head t c .loop .asked + r .asks ≤ 257)
+few t c r part = let p = start t c .pre .1 .1 in sizing-few (p .1) (p .0) (more t c r part)
 
 -- a part with no parts of its own was counted whole
 abbrev one : (t : ℕ) → Of t lts.After-octet-count → Unfolded
@@ -121,7 +98,7 @@ whole t c =
 
 -- before the first part
 loop-holds : (t : ℕ) → Of t lts.Need-loop-holds
-loop-holds t c = sizing-start _ _ _
+loop-holds t c = sizing-start
 
 -- an index fits
 mul-t12 : (t : ℕ) → Of t lts.Need-mul-t12
@@ -138,10 +115,10 @@ octet-count-requires t c κs = search needs
 
 -- few octets, and few asks
 add-octets : (t : ℕ) → Of t lts.Need-add-octets
-add-octets t c = omega (arith, octets-most t (c .before .before) (one t c) (whole t c))
+add-octets t c = omega (arith, few t (c .before .before) (one t c) (whole t c))
 
 add-asked : (t : ℕ) → Of t lts.Need-add-asked
-add-asked t c = omega (arith, asks-few t (c .before .before) (one t c) (whole t c))
+add-asked t c = omega (arith, few t (c .before .before) (one t c) (whole t c))
 
 -- a level is left
 sub-size-unfolded : (t : ℕ) → Of t lts.Need-sub-size-unfolded
@@ -150,18 +127,15 @@ sub-size-unfolded t c = level t (start t (c .before))
 -- one level down, with the parts that were found
 size-unfolded-requires : (t : ℕ) → Of t lts.Need-size-unfolded-requires
 size-unfolded-requires t c κs =
-    let l = head t (c .before) in
-    let s = start t (c .before) in (
+    let looked = c .before in
+    let s = start t looked in
+    let p = s .pre .1 .1 in (
       omega (arith, level t s, s .pre .0),
       (
         s .pre .1 .0,
         (
-          c .before .parts-of .ensures,
-          (
-            omega (arith, c .if1 .left),
-            bounded-part (mapping t s) (s .args .levels-left) (s .args .c .0) _ (l .loop .i) (s .pre .1 .1 .1 .1) (split t s)
-                (c .before .before .before .loop-test .taken),
-          ),
+          parts-some (looked .parts-of .ensures) (c .if1 .left),
+          bounded-part (p .1) (p .0) (head t looked .loop .i) (looked .before .before .loop-test .taken),
         ),
       ),
     )
@@ -169,12 +143,12 @@ size-unfolded-requires t c κs =
 add-octets-2 : (t : ℕ) → Of t lts.Need-add-octets-2
 add-octets-2 t c =
     let called = c .before in
-    omega (arith, octets-most t (called .before .before) (called .size-unfolded .result) (called .size-unfolded .ensures))
+    omega (arith, few t (called .before .before) (called .size-unfolded .result) (called .size-unfolded .ensures))
 
 add-asked-2 : (t : ℕ) → Of t lts.Need-add-asked-2
 add-asked-2 t c =
     let called = c .before .before in
-    omega (arith, asks-few t (called .before .before) (called .size-unfolded .result) (called .size-unfolded .ensures))
+    omega (arith, few t (called .before .before) (called .size-unfolded .result) (called .size-unfolded .ensures))
 
 -- an index fits
 add-i : (t : ℕ) → Of t lts.Need-add-i
@@ -201,9 +175,8 @@ loop-again t c =
 returns : (t : ℕ) → Of t lts.Need-returns
 returns t c =
     let l = c .before in
-    let s = l .before .before .before .before in
-    sizing-done (mapping t s) (s .args .levels-left) (s .args .c .0) _ _ _ _ (level t s) (split t s)
-    (l .loop .inv) (c .loop-test .left)
+    let p = l .before .before .before .before .pre .1 .1 in
+    sizing-done (p .1) (p .0) (l .loop .inv) (c .loop-test .left)
 
 pub +size-unfolded-spec : {M : Type 1} → statement M
 +size-unfolded-spec =

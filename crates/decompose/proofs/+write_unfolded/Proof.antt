@@ -12,17 +12,16 @@ use mathlib.Core.Logic.{⊎-elim}
 use lib.ListN.{length, getD, take, drop}
 use Rattle.terms.specs.CodePoints.{scalar}
 use Rattle.terms.proofs.Lists.{all-at}
-use Rattle.terms.proofs.Parts.{take-drop}
 use Rattle.table.specs.Mapping.{Mapping}
-use Rattle.table.specs.Table.{mappingOf}
+use Rattle.table.specs.Table.{Table, table, mappingOf}
 use Rattle.table.proofs.Form.{formed-parts-scalar}
 use Rattle.utf8.specs.Utf8.{encodes}
 use Rattle.utf8.proofs.Encode.{scalar-most}
 use Rattle.decompose.specs.Levels.{full}
-use Rattle.decompose.specs.Promises.{Bounded, FullFilled}
+use Rattle.decompose.specs.Promises.{Split, Bounded, FullFilled}
 use Rattle.decompose.specs.declared.Unfolded.{Unfolded}
-use Rattle.decompose.proofs.Walk.{parts-none, encodes-whole, filled-whole, Split, bounded-levels, bounded-part, bounded-octets, bounded-asks}
-use Rattle.decompose.proofs.Unfolding.{sizing-octets, sizing-asked, Writing, writing-start, writing-lent, writing-done, writing-length, writing-room}
+use Rattle.decompose.proofs.Walk.{parts-none, encodes-whole, filled-whole, parts-some, bounded-levels, bounded-part}
+use Rattle.decompose.proofs.Unfolding.{sizing-octets, sizing-few, Writing, writing-start, writing-more, writing-done, writing-length, writing-room}
 use borrow.Fn.Kinds.{In, Out}
 use borrow.Fn.PlainCycle.{Measures, is, falls, and}
 use Rattle.decompose.proofs.write_unfolded.Reads as reads
@@ -49,7 +48,7 @@ claims t = (parts-of-reads.Asked, parts-of-reads.Learnt, write-character-reads.A
 
 abbrev Inv-loop : lts.InvT-loop
 Inv-loop levels-left parts entries pool out₀ at₀ asks₀ i₀ out at asks i =
-    Writing (mappingOf entries pool) (levels-left - 1) parts out₀ at asks i out
+    Writing (mappingOf (table entries pool)) (levels-left - 1) parts out₀ at asks i out
 
 abbrev μ-loop : lts.MeasureT-loop
 μ-loop levels-left parts entries pool out₀ at₀ asks₀ i₀ out at asks i = length parts - i
@@ -58,20 +57,22 @@ abbrev μ-loop : lts.MeasureT-loop
 abbrev Of : ℕ → (lts.Claims → In 4 kinds.ps → Out 4 kinds.ps kinds.r → lts.InvT-loop → lts.MeasureT-loop → Type 0) → Type 0
 Of t F = F (claims t) (at t) reads.Post Inv-loop μ-loop
 
--- at the function's entry: the mapping of the table
+-- at the function's entry: the table, and its mapping
+abbrev lent : (t : ℕ) → Of t lts.Start → Table
+lent t s = table (s .args .entries .now) (s .args .pool .now)
+
 abbrev mapping : (t : ℕ) → Of t lts.Start → Mapping
-mapping t s = mappingOf (s .args .entries .now) (s .args .pool .now)
+mapping t s = mappingOf (lent t s)
 
--- the parts are those of the code point, and there are some
+-- the parts are those of the code point; it is bounded, so a level is left
 split : (t : ℕ) (s : Of t lts.Start) → Split (mapping t s) (s .args .c .0) (s .args .parts .now)
-split t s = record { parts = s .pre .1 .1 .0; some = λ e. omega (arith, s .pre .1 .1 .1 .0) }
+split t s = s .pre .1 .1 .0
 
--- it is bounded, so a level is left
 bounded : (t : ℕ) (s : Of t lts.Start) → Bounded (mapping t s) (s .args .levels-left) (s .args .c .0)
-bounded t s = s .pre .1 .1 .1 .1 .1 .0
+bounded t s = s .pre .1 .1 .1 .1 .0
 
 level : (t : ℕ) (s : Of t lts.Start) → 1 ≤ s .args .levels-left
-level t s = bounded-levels (mapping t s) (s .args .levels-left) (s .args .c .0) _ (bounded t s) (split t s)
+level t s = bounded-levels (bounded t s) (split t s)
 
 -- at the loop's head: the function's entry
 abbrev entry : (t : ℕ) → Of t lts.At-loop → Of t lts.Start
@@ -79,24 +80,16 @@ entry t l = l .before .before .before .before .before
 
 -- the slice is as long as at the start, and long enough
 same : (t : ℕ) (l : Of t lts.At-loop) → length (l .loop .out) ≡ length (entry t l .args .out .now)
-same t l =
-    let s = entry t l in
-    writing-length (mapping t s) (s .args .levels-left) (s .args .c .0) _ _ _ _ _ _ (level t s) (split t s)
-    (l .loop .inv) (s .pre .1 .1 .1 .1 .1 .1)
+same t l = let s = entry t l in writing-length (bounded t s) (split t s) (l .loop .inv) (s .pre .1 .1 .1 .1 .1)
 
 fits : (t : ℕ) (l : Of t lts.At-loop) → l .loop .at ≤ length (l .loop .out)
 fits t l =
     let s = entry t l in
-    omega (
-      arith,
-      same t l,
-      sizing-octets (mapping t s) (s .args .levels-left) (s .args .c .0) _ _ _ _ (level t s) (split t s) (l .loop .inv .sized),
-      s .pre .1 .1 .1 .1 .1 .1,
-    )
+    omega (arith, same t l, sizing-octets (bounded t s) (split t s) (l .loop .inv .sized), s .pre .1 .1 .1 .1 .1)
 
 -- the part of the slice that is lent
-abbrev lent : (t : ℕ) → Of t lts.At-loop → List ℕ
-lent t l = take (length (l .loop .out) - l .loop .at) (drop (l .loop .at) (l .loop .out))
+abbrev room : (t : ℕ) → Of t lts.At-loop → List ℕ
+room t l = take (length (l .loop .out) - l .loop .at) (drop (l .loop .at) (l .loop .out))
 
 -- where a part was looked up: the loop's head, that there is a part, and the part
 abbrev head : (t : ℕ) → Of t lts.After-parts-of → Of t lts.At-loop
@@ -112,26 +105,24 @@ part t c = getD (entry t (head t c) .args .parts .now) (head t c .loop .i) 0
 part-scalar : (t : ℕ) (c : Of t lts.After-parts-of) → scalar (part t c) ≡ true
 part-scalar t c =
     let s = entry t (head t c) in
-    let scalars = formed-parts-scalar (s .args .entries .now) (s .args .pool .now) (s .pre .1 .0) (s .args .c .0) in
-    all-at scalar (s .args .parts .now) (head t c .loop .i) 0 (rw (s .pre .1 .1 .0) scalars) (taken t c)
+    let scalars = formed-parts-scalar (lent t s) (s .pre .1 .0) (s .args .c .0) in
+    all-at scalar (s .args .parts .now) (head t c .loop .i) 0 (rw (split t s .parts) scalars) (taken t c)
 
 -- and there is room for it
-room : (t : ℕ) (c : Of t lts.After-parts-of)
+part-room : (t : ℕ) (c : Of t lts.After-parts-of)
     → let l = head t c in
     let s = entry t l in
-    length (encodes (full (mapping t s) (s .args .levels-left - 1) (part t c))) ≤ length (lent t l)
-room t c =
+    length (encodes (full (mapping t s) (s .args .levels-left - 1) (part t c))) ≤ length (room t l)
+part-room t c =
     let l = head t c in
     let s = entry t l in
-    rw (take-drop (l .loop .at) (l .loop .out))
-    (writing-room (mapping t s) (s .args .levels-left) (s .args .c .0) (s .args .parts .now) _ _ _ _ _ (level t s) (split t s)
-    (l .loop .inv) (s .pre .1 .1 .1 .1 .1 .1) (taken t c))
+    writing-room (bounded t s) (split t s) (l .loop .inv) (s .pre .1 .1 .1 .1 .1) (taken t c)
 
 -- it was written, either way
 abbrev PartFilled : (t : ℕ) → Of t lts.After-parts-of → Unfolded → List ℕ → Type 0
 PartFilled t c r after =
     let s = entry t (head t c) in
-    FullFilled (mapping t s) (s .args .levels-left - 1) (part t c) (lent t (head t c)) r after
+    FullFilled (mapping t s) (s .args .levels-left - 1) (part t c) (room t (head t c)) r after
 
 -- so one part more is
 more : (t : ℕ) (c : Of t lts.After-parts-of) (r : Unfolded) (after : List ℕ) → PartFilled t c r after
@@ -142,34 +133,14 @@ more : (t : ℕ) (c : Of t lts.After-parts-of) (r : Unfolded) (after : List ℕ)
     (l .loop .asks + r .asks)
     (l .loop .i + 1)
     (take (l .loop .at) (l .loop .out) ++ (after ++ drop (length (l .loop .out) - l .loop .at) (drop (l .loop .at) (l .loop .out))))
-more t c r after filled =
-    let l = head t c in
-    let s = entry t l in
-    writing-lent (mapping t s) (s .args .levels-left - 1) (s .args .parts .now) (s .args .out .now)
-    (l .loop .at) (l .loop .asks) (l .loop .i) r (l .loop .out) after (l .loop .inv) (taken t c) filled
+more t c r after filled = writing-more (head t c .loop .inv) (taken t c) filled
 
--- the octets are at most 128, and the asks at most 257
-octets-most : (t : ℕ) (c : Of t lts.After-parts-of) (r : Unfolded) (after : List ℕ) → PartFilled t c r after
-    → head t c .loop .at + r .octets ≤ 128
-octets-most t c r after filled =
+-- to few octets and few asks
+few : (t : ℕ) (c : Of t lts.After-parts-of) (r : Unfolded) (after : List ℕ) → PartFilled t c r after
+    → (head t c .loop .at + r .octets ≤ 128) × (head t c .loop .asks + r .asks ≤ 257)
+few t c r after filled =
     let s = entry t (head t c) in
-    omega (
-      arith,
-      sizing-octets (mapping t s) (s .args .levels-left) (s .args .c .0) _ _ _ _ (level t s) (split t s)
-          (more t c r after filled .sized),
-      bounded-octets (mapping t s) (s .args .levels-left) (s .args .c .0) (bounded t s),
-    )
-
-asks-few : (t : ℕ) (c : Of t lts.After-parts-of) (r : Unfolded) (after : List ℕ) → PartFilled t c r after
-    → head t c .loop .asks + r .asks ≤ 257
-asks-few t c r after filled =
-    let s = entry t (head t c) in
-    omega (
-      arith,
-      sizing-asked (mapping t s) (s .args .levels-left) (s .args .c .0) _ _ _ _ (level t s) (split t s)
-          (more t c r after filled .sized),
-      bounded-asks (mapping t s) (s .args .levels-left) (s .args .c .0) (bounded t s),
-    )
+    sizing-few (bounded t s) (split t s) (more t c r after filled .sized)
 
 -- where the part has no parts of its own
 whole : (t : ℕ) (c : Of t lts.Then1) → mapping t (entry t (head t (c .before))) .parts (part t (c .before)) ≡ []
@@ -183,12 +154,12 @@ filled : (t : ℕ) (c : Of t lts.After-write-character)
 filled t c =
     let p = c .before .before .before in
     let s = entry t (head t p) in
-    filled-whole (mapping t s) (s .args .levels-left - 1) (part t p) (whole t (c .before .before)) (lent t (head t p)) _ _
+    filled-whole (mapping t s) (s .args .levels-left - 1) (part t p) (whole t (c .before .before)) (room t (head t p)) _ _
     (c .write-character .ensures)
 
 -- before the first part
 loop-holds : (t : ℕ) → Of t lts.Need-loop-holds
-loop-holds t c = writing-start _ _ _ _
+loop-holds t c = writing-start
 
 -- an index fits
 mul-t14 : (t : ℕ) → Of t lts.Need-mul-t14
@@ -216,15 +187,15 @@ write-character-requires t c κs =
     let p = c .before .before in
     let s = entry t (head t p) in
     let octets = encodes-whole (mapping t s) (s .args .levels-left - 1) (part t p) (whole t (c .before)) in
-    (scalar-most (part t p) (part-scalar t p), rw octets at (room t p))
+    (scalar-most (part t p) (part-scalar t p), rw octets at (part-room t p))
 
 -- few octets
 add-at : (t : ℕ) → Of t lts.Need-add-at
-add-at t c = let w = c .before .before in omega (arith, octets-most t (w .before .before .before) _ _ (filled t w))
+add-at t c = let w = c .before .before in omega (arith, few t (w .before .before .before) _ _ (filled t w))
 
 -- few asks
 add-asks : (t : ℕ) → Of t lts.Need-add-asks
-add-asks t c = let w = c .before .before in omega (arith, asks-few t (w .before .before .before) _ _ (filled t w))
+add-asks t c = let w = c .before .before in omega (arith, few t (w .before .before .before) _ _ (filled t w))
 
 -- a level is left
 sub-write-unfolded : (t : ℕ) → Of t lts.Need-sub-write-unfolded
@@ -245,24 +216,21 @@ write-unfolded-requires : (t : ℕ) → Of t lts.Need-write-unfolded-requires
 write-unfolded-requires t c κs =
     let p = c .before .before in
     let s = entry t (head t p) in
-    let bounds =
-    bounded-part (mapping t s) (s .args .levels-left) (s .args .c .0) (s .args .parts .now) (head t p .loop .i) (bounded t s)
-    (split t s) (taken t p) in (
-      omega (arith, level t s, s .pre .0),
-      (s .pre .1 .0, (p .parts-of .ensures, (omega arith, (part-scalar t p, (bounds, room t p))))),
-    )
+    let parts = parts-some (p .parts-of .ensures) (c .before .if1 .left) in
+    let bounds = bounded-part (bounded t s) (split t s) (head t p .loop .i) (taken t p) in
+    (omega (arith, level t s, s .pre .0), (s .pre .1 .0, (parts, (part-scalar t p, (bounds, part-room t p)))))
 
 -- few octets
 add-at-2 : (t : ℕ) → Of t lts.Need-add-at-2
 add-at-2 t c =
     let w = c .before .before .before in
-    omega (arith, octets-most t (w .before .before .before) _ _ (w .write-unfolded .ensures))
+    omega (arith, few t (w .before .before .before) _ _ (w .write-unfolded .ensures))
 
 -- few asks
 add-asks-2 : (t : ℕ) → Of t lts.Need-add-asks-2
 add-asks-2 t c =
     let w = c .before .before .before .before in
-    omega (arith, asks-few t (w .before .before .before) _ _ (w .write-unfolded .ensures))
+    omega (arith, few t (w .before .before .before) _ _ (w .write-unfolded .ensures))
 
 -- an index fits
 add-i : (t : ℕ) → Of t lts.Need-add-i
@@ -291,10 +259,8 @@ same-length t c = same t (c .before)
 -- every part was written
 returns : (t : ℕ) → Of t lts.Need-returns
 returns t c =
-    let l = c .before in
-    let s = entry t l in
-    writing-done (mapping t s) (s .args .levels-left) (s .args .c .0) _ _ _ _ _ _ (level t s) (split t s)
-    (l .loop .inv) (c .loop-test .left)
+    let s = entry t (c .before) in
+    writing-done (bounded t s) (split t s) (c .before .loop .inv) (c .loop-test .left)
 
 pub +write-unfolded-spec : {M : Type 1} → statement M
 +write-unfolded-spec =

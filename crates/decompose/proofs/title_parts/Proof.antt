@@ -1,10 +1,10 @@
 -- `decompose::title_parts` meets its contract: where the titlecase is the code point itself, its entry is the one that was found.
 -- Assumes nothing.
 use Prim.Native.Nat.{_<_}
-use native.Mathlib.Omega.{arith}
-use mathlib.Core.Path.{ap, _∙_}
+use mathlib.Core.Path.{sym, ap, _∙_}
 use borrow.Author.Needs.{needs}
-use Rattle.table.specs.Table.{entryCount, entryOf}
+use Rattle.table.specs.Layout.{entryCount}
+use Rattle.table.specs.Table.{table, entryOf, partsOf}
 use Rattle.table.proofs.Form.{entryOf-some}
 use Rattle.decompose.proofs.title_parts.Statement.{statement}
 use Rattle.decompose.proofs.title_parts.Tie as tie
@@ -13,18 +13,8 @@ use Rattle.decompose.proofs.title_parts.Tie as tie
 entry : (s : tie.Start) → s .args .i < entryCount (s .args .entries .now)
 entry s = entryOf-some (s .args .entries .now) (s .args .c .0) (s .args .i) (s .pre .1) .0
 
--- the entry is one
-mul-title : tie.Need-mul-title
-mul-title c = omega (arith, entry (c .before .before))
-
-add-title : tie.Need-add-title
-add-title c = omega (arith, entry (c .before .before))
-
-mul-title-2 : tie.Need-mul-title-2
-mul-title-2 c = omega (arith, entry (c .before .before))
-
-shared-slice-read-title : tie.Need-shared-slice-read-title
-shared-slice-read-title c = omega (arith, entry (c .before .before .before))
+title-at-requires : tie.Need-title-at-requires
+title-at-requires c κs = entry (c .before .before)
 
 parts-at-requires : tie.Need-parts-at-requires
 parts-at-requires c κs =
@@ -34,24 +24,22 @@ parts-at-requires c κs =
 -- the titlecase is the code point, whose entry was found
 returns : tie.Need-returns
 returns c =
-    let s = c .before .before .before .before .before .before in
-    rw (ap (entryOf (s .args .entries .now)) (c .before .if1 .taken) ∙ s .pre .1) (c .parts-at .ensures)
+    let same = c .before in
+    let read = same .before .before in
+    let s = read .before .before .before in
+    let title = sym (read .title-at .ensures) ∙ same .if1 .taken in
+    rw (ap (entryOf (s .args .entries .now)) title ∙ s .pre .1) (c .parts-at .ensures)
 
 parts-of-requires : tie.Need-parts-of-requires
 parts-of-requires c κs = search needs
 
+-- it is another
 returns-2 : tie.Need-returns-2
-returns-2 c = search needs
+returns-2 c =
+    let read = c .before .before .before in
+    let a = read .before .before .before .args in
+    c .parts-of .ensures ∙ ap (partsOf (table (a .entries .now) (a .pool .now))) (read .title-at .ensures)
 
 pub title-parts-spec : {M : Type 1} → statement M
 title-parts-spec =
-    tie.close
-    (tie.spec
-    mul-title
-    add-title
-    mul-title-2
-    shared-slice-read-title
-    parts-at-requires
-    returns
-    parts-of-requires
-    returns-2)
+    tie.close (tie.spec title-at-requires parts-at-requires returns parts-of-requires returns-2)

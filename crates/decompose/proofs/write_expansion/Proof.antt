@@ -2,7 +2,6 @@
 -- it is the titlecase if that has no parts, for two asks too; and else the titlecase unfolds, since every code point of an
 -- accepted table does.
 -- Assumes nothing.
-use Prim.Native.Nat.{_<_}
 use native.Mathlib.Omega.{arith}
 use mathlib.Core.Path.{_≡_, sym, ap, _∙_}
 use mathlib.Core.Bool.{true}
@@ -11,75 +10,71 @@ use mathlib.Core.List.{[]}
 use borrow.Author.Needs.{needs}
 use Rattle.terms.specs.CodePoints.{scalar}
 use Rattle.terms.specs.Refusals.{levelsMost}
-use Rattle.table.specs.Mapping.{Mapping}
-use Rattle.table.specs.Table.{entryCount, titleAt, formRefusal, entryOf, partsOf, mappingOf}
+use Rattle.table.specs.Table.{Table, table, formRefusal, entryOf, titleOf, partsOf, mappingOf}
 use Rattle.table.specs.Promises.{placeFound}
-use Rattle.table.proofs.Form.{formed-ascending, formed-title, entryOf-some}
+use Rattle.table.proofs.Form.{formed-ascending, formed-title-scalar, entryOf-some, titleOf-none, titleOf-some, partsOf-none}
 use Rattle.utf8.proofs.Encode.{scalar-most}
 use Rattle.decompose.specs.Promises.{Bounded}
-use Rattle.decompose.proofs.Walk.{parts-none, bounded-unfolds, bounded-asks}
-use Rattle.decompose.proofs.Expansion.{expanded-none, filled-none, expanded-entry, filled-entry, expanded-title, filled-title}
+use Rattle.decompose.proofs.Walk.{parts-none, parts-some, bounded-unfolds, bounded-asks}
+use Rattle.decompose.proofs.Expansion.{expanded-title, filled-title, expanded-plain, filled-plain}
 use Rattle.decompose.proofs.Demand3.{accepted-form, accepted-all}
 use Rattle.decompose.proofs.write_expansion.Statement.{statement}
 use Rattle.decompose.proofs.write_expansion.Tie as tie
 
--- at the function's entry: the mapping of the table, its form, and that it is accepted
-abbrev mapping : tie.Start → Mapping
-mapping s = mappingOf (s .args .entries .now) (s .args .pool .now)
+-- at the function's entry: the table, and its form
+abbrev lent : tie.Start → Table
+lent s = table (s .args .entries .now) (s .args .pool .now)
 
-form : (s : tie.Start) → formRefusal (s .args .entries .now) (s .args .pool .now) ≡ none
-form s = accepted-form (s .args .entries .now) (s .args .pool .now) (s .pre .0)
+form : (s : tie.Start) → formRefusal (lent s) ≡ none
+form s = accepted-form (lent s) (s .pre .0)
 
--- where an entry was found: the function's entry, which entry it is, and that it is one
-abbrev start : tie.After-i → tie.Start
-start c = c .before .before .before .before .before .before
-
-found : (c : tie.After-i) → entryOf (start c .args .entries .now) (start c .args .c .0) ≡ some (c .i .given .0 .0)
-found c = sym (c .before .before .find-entry .ensures) ∙ ap placeFound (c .i .given .1)
-
-entry : (c : tie.After-i) → c .i .given .0 .0 < entryCount (start c .args .entries .now)
-entry c = entryOf-some (start c .args .entries .now) (start c .args .c .0) (c .i .given .0 .0) (found c) .0
-
--- its titlecase is scalar, and unfolds
-scalar-title : (c : tie.After-i) → scalar (titleAt (start c .args .entries .now) (c .i .given .0 .0)) ≡ true
-scalar-title c =
-    let s = start c in
-    formed-title (s .args .entries .now) (s .args .pool .now) (form s) (c .i .given .0 .0) (entry c)
-
-bounded : (c : tie.After-i)
-    → Bounded (mapping (start c)) levelsMost (titleAt (start c .args .entries .now) (c .i .given .0 .0))
-bounded c =
-    let s = start c in
-    let title = titleAt (s .args .entries .now) (c .i .given .0 .0) in
-    bounded-unfolds (mapping s) title (accepted-all (s .args .entries .now) (s .args .pool .now) (s .pre .0) title)
-
--- where the titlecase's parts were looked up: where the entry was found
-abbrev at-entry : tie.After-title-parts → tie.After-i
-at-entry c = c .before .before .before
-
--- where there are none
-whole : (c : tie.Then1)
-    → let at-i = at-entry (c .before) in
-    let s = start at-i in
-    partsOf (s .args .entries .now) (s .args .pool .now) (titleAt (s .args .entries .now) (at-i .i .given .0 .0)) ≡ []
-whole c =
-    let at-i = at-entry (c .before) in
-    let s = start at-i in
-    parts-none (mapping s) (titleAt (s .args .entries .now) (at-i .i .given .0 .0)) _ (c .before .title-parts .ensures)
-    (c .if1 .taken)
-
--- where no entry was found: the function's entry, and that there is none
+-- where no entry was found: the function's entry; the code point is its own titlecase, and has no parts
 abbrev start-none : tie.After-enum-told → tie.Start
 start-none c = c .before .before .before .before .before .before
 
-missing : (c : tie.After-enum-told) → entryOf (start-none c .args .entries .now) (start-none c .args .c .0) ≡ none
-missing c = sym (c .before .before .find-entry .ensures) ∙ ap placeFound (c .enum-told .given .1)
+missing : (c : tie.After-enum-told) → let s = start-none c in
+    (titleOf (lent s .entries) (s .args .c .0) ≡ s .args .c .0) × (partsOf (lent s) (s .args .c .0) ≡ [])
+missing c =
+    let s = start-none c in
+    let e = sym (c .before .before .find-entry .ensures) ∙ ap placeFound (c .enum-told .given .1) in
+    (titleOf-none (lent s .entries) (s .args .c .0) e, partsOf-none (lent s) (s .args .c .0) e)
+
+-- where one was found: which it is
+found : (c : tie.After-i) → let a = c .before .before .before .before .before .before .args in
+    entryOf (a .entries .now) (a .c .0) ≡ some (c .i .given .0 .0)
+found c = sym (c .before .before .find-entry .ensures) ∙ ap placeFound (c .i .given .1)
+
+-- where its titlecase was read: the function's entry; the titlecase is the code point's, is scalar, and unfolds
+abbrev start : tie.After-title-at → tie.Start
+start c = c .before .before .before .before .before .before .before .before
+
+title : (c : tie.After-title-at) → let s = start c in titleOf (lent s .entries) (s .args .c .0) ≡ c .title-at .result
+title c =
+    let s = start c in
+    titleOf-some (lent s .entries) (s .args .c .0) _ (found (c .before .before)) ∙ sym (c .title-at .ensures)
+
+scalar-title : (c : tie.After-title-at) → scalar (c .title-at .result) ≡ true
+scalar-title c =
+    let s = start c in
+    sym (ap scalar (title c)) ∙ formed-title-scalar (lent s) (form s) (s .args .c .0) (s .pre .1 .0)
+
+bounded : (c : tie.After-title-at) → Bounded (mappingOf (lent (start c))) levelsMost (c .title-at .result)
+bounded c =
+    let s = start c in
+    bounded-unfolds (mappingOf (lent s)) (c .title-at .result) (accepted-all (lent s) (s .pre .0) (c .title-at .result))
+
+-- where its parts were found, and where there are none
+parts : (c : tie.After-title-parts) → c .title-parts .result .now ≡ partsOf (lent (start (c .before))) (c .before .title-at .result)
+parts c = c .title-parts .ensures ∙ ap (partsOf (lent (start (c .before)))) (sym (c .before .title-at .ensures))
+
+plain : (c : tie.Then1) → let read = c .before .before in partsOf (lent (start read)) (read .title-at .result) ≡ []
+plain c =
+    let read = c .before .before in
+    parts-none (mappingOf (lent (start read))) (read .title-at .result) _ (parts (c .before)) (c .if1 .taken)
 
 -- the code points ascend
 find-entry-requires : tie.Need-find-entry-requires
-find-entry-requires c κs =
-    let s = c .before .before .before in
-    formed-ascending (s .args .entries .now) (s .args .pool .now) (form s)
+find-entry-requires c κs = let s = c .before .before .before in formed-ascending (lent s) (form s)
 
 enum-known-i : tie.Need-enum-known-i
 enum-known-i c = search needs
@@ -91,8 +86,9 @@ enum-told c = search needs
 write-character-requires : tie.Need-write-character-requires
 write-character-requires c κs =
     let s = start-none (c .before) in
-    let octets = expanded-none (s .args .entries .now) (s .args .pool .now) (s .args .c .0) (missing (c .before)) in
-    (scalar-most (s .args .c .0) (s .pre .1 .0), rw octets at (s .pre .1 .1))
+    let x = s .args .c .0 in
+    let e = missing (c .before) in
+    (scalar-most x (s .pre .1 .0), rw (expanded-plain (mappingOf (lent s)) x x (e .0) (e .1)) at (s .pre .1 .1))
 
 same-length : tie.Need-same-length
 same-length c = search needs
@@ -101,35 +97,27 @@ same-length c = search needs
 returns : tie.Need-returns
 returns c =
     let called = c .before .before in
-    let at-none = called .before .before in
-    let s = start-none at-none in
-    filled-none (s .args .entries .now) (s .args .pool .now) (s .args .c .0) (missing at-none) (s .args .out .now) _ _
+    let none = called .before .before in
+    let s = start-none none in
+    let e = missing none in
+    filled-plain (mappingOf (lent s)) (s .args .c .0) (s .args .c .0) (e .0) (e .1) (s .args .out .now) _ _
     (called .write-character .ensures)
 
 -- the entry is one
-mul-t14 : tie.Need-mul-t14
-mul-t14 c = omega (arith, entry (c .before))
-
-add-t15 : tie.Need-add-t15
-add-t15 c = omega (arith, entry (c .before))
-
-mul-t16 : tie.Need-mul-t16
-mul-t16 c = omega (arith, entry (c .before))
-
-shared-slice-read-t18 : tie.Need-shared-slice-read-t18
-shared-slice-read-t18 c = omega (arith, entry (c .before .before))
+title-at-requires : tie.Need-title-at-requires
+title-at-requires c κs = entryOf-some _ _ _ (found (c .before)) .0
 
 -- it was found
 title-parts-requires : tie.Need-title-parts-requires
-title-parts-requires c κs = let at-i = c .before .before in (form (start at-i), found at-i)
+title-parts-requires c κs = (form (start c), found (c .before .before))
 
 -- the titlecase is scalar, and there is room for its octets
 write-character-requires-2 : tie.Need-write-character-requires-2
 write-character-requires-2 c κs =
-    let at-i = at-entry (c .before .before) in
-    let s = start at-i in
-    let octets = expanded-title (s .args .entries .now) (s .args .pool .now) (s .args .c .0) _ (found at-i) (whole (c .before)) in
-    (scalar-most _ (scalar-title at-i), rw octets at (s .pre .1 .1))
+    let read = c .before .before .before in
+    let s = start read in
+    let octets = expanded-plain (mappingOf (lent s)) (s .args .c .0) _ (title read) (plain (c .before)) in
+    (scalar-most _ (scalar-title read), rw octets at (s .pre .1 .1))
 
 same-length-2 : tie.Need-same-length-2
 same-length-2 c = search needs
@@ -138,28 +126,28 @@ same-length-2 c = search needs
 returns-2 : tie.Need-returns-2
 returns-2 c =
     let called = c .before .before in
-    let at-whole = called .before .before in
-    let at-i = at-entry (at-whole .before) in
-    let s = start at-i in
-    filled-title (s .args .entries .now) (s .args .pool .now) (s .args .c .0) _ (found at-i) (whole at-whole) (s .args .out .now) _ _
+    let whole = called .before .before in
+    let read = whole .before .before in
+    let s = start read in
+    filled-plain (mappingOf (lent s)) (s .args .c .0) _ (title read) (plain whole) (s .args .out .now) _ _
     (called .write-character2 .ensures)
 
 -- the titlecase has these parts, is scalar and unfolds, and there is room
 write-unfolded-requires : tie.Need-write-unfolded-requires
 write-unfolded-requires c κs =
     let parted = c .before .before in
-    let at-i = at-entry parted in
-    let s = start at-i in
-    let octets = expanded-entry (s .args .entries .now) (s .args .pool .now) (s .args .c .0) _ (found at-i) in
-    let parts = parted .title-parts .ensures in
-    (form s, (parts, (omega arith, (scalar-title at-i, (bounded at-i, rw octets at (s .pre .1 .1))))))
+    let read = parted .before in
+    let s = start read in
+    let octets = expanded-title (mappingOf (lent s)) (s .args .c .0) _ (title read) in
+    let split = parts-some (parts parted) (c .before .if1 .left) in
+    (form s, (split, (scalar-title read, (bounded read, rw octets at (s .pre .1 .1)))))
 
 -- for few asks
-add-t24 : tie.Need-add-t24
-add-t24 c =
+add-t21 : tie.Need-add-t21
+add-t21 c =
     let called = c .before .before .before in
-    let at-i = at-entry (called .before .before .before) in
-    omega (arith, called .write-unfolded .ensures .counted .asked, bounded-asks (mapping (start at-i)) levelsMost _ (bounded at-i))
+    let read = called .before .before .before .before in
+    omega (arith, called .write-unfolded .ensures .counted .asked, bounded-asks (bounded read))
 
 same-length-3 : tie.Need-same-length-3
 same-length-3 c = search needs
@@ -168,9 +156,9 @@ same-length-3 c = search needs
 returns-3 : tie.Need-returns-3
 returns-3 c =
     let called = c .before .before .before in
-    let at-i = at-entry (called .before .before .before) in
-    let s = start at-i in
-    filled-entry (s .args .entries .now) (s .args .pool .now) (s .args .c .0) _ (found at-i) (s .args .out .now)
+    let read = called .before .before .before .before in
+    let s = start read in
+    filled-title (mappingOf (lent s)) (s .args .c .0) _ (title read) (s .args .out .now)
     (called .write-unfolded .result) _ (called .write-unfolded .ensures)
 
 pub write-expansion-spec : {M : Type 1} → statement M
@@ -183,15 +171,12 @@ write-expansion-spec =
     write-character-requires
     same-length
     returns
-    mul-t14
-    add-t15
-    mul-t16
-    shared-slice-read-t18
+    title-at-requires
     title-parts-requires
     write-character-requires-2
     same-length-2
     returns-2
     write-unfolded-requires
-    add-t24
+    add-t21
     same-length-3
     returns-3)

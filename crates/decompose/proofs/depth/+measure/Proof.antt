@@ -1,4 +1,4 @@
--- `decompose::measure` meets its contract. It calls itself for each part that decomposes, one level down; the measure of the
+-- `decompose::depth::measure` meets its contract. It calls itself for each part that decomposes, one level down; the measure of the
 -- recursion is the levels left. The loop's invariant: the parts so far are within the levels left to them and come to `total` code
 -- points, for which there is room (`Measuring`). The loop's measure is the number of parts that are left. Assumes nothing.
 use Prim.Native.Nat.{ℕ, _+_, _-_, _≤_, _<_}
@@ -12,18 +12,18 @@ use borrow.Author.Needs.{needs}
 use borrow.Author.Tests.{le-leb, lt-leb}
 use Rattle.terms.specs.Lists.{when}
 use Rattle.table.specs.Mapping.{Mapping}
-use Rattle.table.specs.Table.{mappingOf}
+use Rattle.table.specs.Table.{table, mappingOf}
 use Rattle.decompose.specs.Promises.{measured, measuredSize}
-use Rattle.decompose.proofs.Walk.{parts-none, measured-whole, Split}
+use Rattle.decompose.proofs.Walk.{parts-none, measured-whole, parts-some}
 use Rattle.decompose.proofs.Measuring.{measuredParts, measured-parts, measured-none, Measuring, measuring-start, measuring-more, measuring-done, measuring-stop}
 use borrow.Fn.Kinds.{In, Out}
 use borrow.Fn.PlainCycle.{Measures, is, falls, and}
-use Rattle.decompose.proofs.measure.Reads as reads
-use Rattle.decompose.proofs.measure.Kinds as kinds
-use Rattle.decompose.proofs.+measure.Lts-measure as lts
+use Rattle.decompose.proofs.depth.measure.Reads as reads
+use Rattle.decompose.proofs.depth.measure.Kinds as kinds
+use Rattle.decompose.proofs.depth.+measure.Lts-measure as lts
 use Rattle.table.proofs.parts_of.Reads as parts-of-reads
-use Rattle.decompose.proofs.+measure.{statement}
-use Rattle.decompose.proofs.+measure.Tie.{close}
+use Rattle.decompose.proofs.depth.+measure.{statement}
+use Rattle.decompose.proofs.depth.+measure.Tie.{close}
 
 -- the recursion's measure: the levels left
 abbrev μ-measure : Measures 3 kinds.ps ℕ
@@ -41,7 +41,7 @@ claims t = (parts-of-reads.Asked, parts-of-reads.Learnt, below t, reads.Post)
 
 abbrev Inv-loop : lts.InvT-loop
 Inv-loop levels-left parts room entries pool total₀ i₀ total i =
-    Measuring (mappingOf entries pool) (levels-left - 1) parts room total i
+    Measuring (mappingOf (table entries pool)) (levels-left - 1) parts room total i
 
 abbrev μ-loop : lts.MeasureT-loop
 μ-loop levels-left parts room entries pool total₀ i₀ total i = length parts - i
@@ -52,11 +52,7 @@ Of t F = F (claims t) (at t) reads.Post Inv-loop μ-loop
 
 -- at the function's entry: the mapping of the table
 abbrev mapping : (t : ℕ) → Of t lts.Start → Mapping
-mapping t s = mappingOf (s .args .entries .now) (s .args .pool .now)
-
--- its parts are those of the code point
-split : (t : ℕ) (s : Of t lts.Start) → Split (mapping t s) (s .args .c .0) (s .args .parts .now)
-split t s = record { parts = s .pre .1 .1 .0; some = λ none. omega (arith, s .pre .1 .1 .1) }
+mapping t s = mappingOf (table (s .args .entries .now) (s .args .pool .now))
 
 -- where the loop starts: the function's entry, and that a level is left
 abbrev entry : (t : ℕ) → Of t lts.Else1 → Of t lts.Start
@@ -71,7 +67,7 @@ parts-decide : (t : ℕ) (c : Of t lts.Else1) → let s = entry t c in
     ≡ measuredParts (mapping t s) (s .args .levels-left - 1) (s .args .room) (s .args .parts .now)
 parts-decide t c =
     let s = entry t c in
-    measured-parts (mapping t s) (s .args .levels-left) (s .args .room) (s .args .c .0) _ (level t c) (split t s)
+    measured-parts (s .pre .1 .1) (s .args .levels-left) (s .args .room) (level t c)
 
 -- where a part was looked up: the loop's head, the function's entry, the room left, and the part's measurement
 abbrev head : (t : ℕ) → Of t lts.After-parts-of → Of t lts.At-loop
@@ -93,22 +89,14 @@ more : (t : ℕ) (c : Of t lts.After-parts-of) (k : ℕ) → part t c ≡ some k
     → let l = head t c in
     let s = start t c in
     Measuring (mapping t s) (s .args .levels-left - 1) (s .args .parts .now) (s .args .room) (l .loop .total + k) (l .loop .i + 1)
-more t c k fits =
-    let l = head t c in
-    let s = start t c in
-    measuring-more (mapping t s) (s .args .levels-left - 1) (s .args .parts .now) (s .args .room)
-    (l .loop .total) (l .loop .i) k (l .loop .inv) (c .before .before .loop-test .taken) fits
+more t c k fits = measuring-more (head t c .loop .inv) (c .before .before .loop-test .taken) fits
 
 -- and where it doesn't, the code point is too much
 stop : (t : ℕ) (c : Of t lts.After-parts-of) → part t c ≡ none
     → let s = start t c in
     none ≡ measured (mapping t s) (s .args .levels-left) (s .args .room) (s .args .c .0)
 stop t c too-much =
-    let l = head t c in
-    let s = start t c in
-    measuring-stop (mapping t s) (s .args .levels-left - 1) (s .args .parts .now) (s .args .room)
-    (l .loop .total) (l .loop .i) (l .loop .inv) (c .before .before .loop-test .taken) too-much
-    ∙ sym (parts-decide t (l .before))
+    measuring-stop (head t c .loop .inv) (c .before .before .loop-test .taken) too-much ∙ sym (parts-decide t (head t c .before))
 
 -- a part with no parts of its own is one code point
 whole : (t : ℕ) (c : Of t lts.Then2) → part t (c .before) ≡ when (leb 1 (left t (c .before))) 1
@@ -135,12 +123,11 @@ returns t c =
     let s = c .before .before .before .before in
     let a = s .args in
     let none-left : a .levels-left ≡ 0 = c .if1 .taken in
-    sym (ap (λ n. measured (mapping t s) n (a .room) (a .c .0)) none-left
-    ∙ measured-none (mapping t s) (a .room) (a .c .0) _ (split t s))
+    sym (ap (λ n. measured (mapping t s) n (a .room) (a .c .0)) none-left ∙ measured-none (s .pre .1 .1) (a .room))
 
 -- before the first part
 loop-holds : (t : ℕ) → Of t lts.Need-loop-holds
-loop-holds t c = measuring-start _ _ _ _
+loop-holds t c = measuring-start
 
 -- an index fits
 mul-t14 : (t : ℕ) → Of t lts.Need-mul-t14
@@ -177,7 +164,7 @@ measure-requires : (t : ℕ) → Of t lts.Need-measure-requires
 measure-requires t c κs =
     let s = start t (c .before) in (
       omega (arith, level t (head t (c .before) .before), s .pre .0),
-      (s .pre .1 .0, (c .before .parts-of .ensures, omega (arith, c .if2 .left))),
+      (s .pre .1 .0, parts-some (c .before .parts-of .ensures) (c .if2 .left)),
     )
 
 enum-known-measurement : (t : ℕ) → Of t lts.Need-enum-known-measurement
@@ -225,10 +212,7 @@ loop-again t c =
 returns-4 : (t : ℕ) → Of t lts.Need-returns-4
 returns-4 t c =
     let l = c .before in
-    let s = entry t (l .before) in
-    measuring-done (mapping t s) (s .args .levels-left - 1) (s .args .parts .now) (s .args .room)
-    (l .loop .total) (l .loop .i) (l .loop .inv) (c .loop-test .left)
-    ∙ sym (parts-decide t (l .before))
+    measuring-done (l .loop .inv) (c .loop-test .left) ∙ sym (parts-decide t (l .before))
 
 pub +measure-spec : {M : Type 1} → statement M
 +measure-spec =
