@@ -1,4 +1,4 @@
--- What becomes of a line by its refusal and what it gives.
+-- What becomes of a line by its refusal and what it gives, and the state and slices after it.
 -- Assumes nothing.
 use mathlib.Core.Path.{_≡_, refl, ap}
 use mathlib.Core.Option.{Option, none, some}
@@ -19,13 +19,13 @@ module _ (b : Built) {x : Option Refusal} {given : Option Properties} where
   addedBy-refused e = rw e (record { answered = refl; left = refl })
 
   -- what is not refused is stored
-  pub addedBy-taken : {p : Properties} {st : LineState} {es pool : List ℕ}
-      → x ≡ none → given ≡ some p → built st es pool ≡ added b p → AddedBy x given b (Taken st) es pool
+  pub addedBy-taken : {p : Properties} {st : LineState} {entries pool : List ℕ}
+      → x ≡ none → given ≡ some p → built st entries pool ≡ added b p → AddedBy x given b (Taken st) entries pool
   addedBy-taken e f s = rw (e, f) (record { answered = ap (λ (c : Built). gives (stateNumbers (c .state))) s; left = s })
 
 -- so of a line by its refusal and its properties
-pub addedBy-line : {b : Built} {line : List ℕ} {x : Option Refusal} {given : Option Properties} {r : Line} {es pool : List ℕ}
-    → lineRefusal b line ≡ x → lineProperties line ≡ given → AddedBy x given b r es pool → Added b line r es pool
+pub addedBy-line : {b : Built} {line : List ℕ} {x : Option Refusal} {given : Option Properties} {r : Line} {entries pool : List ℕ}
+    → lineRefusal b line ≡ x → lineProperties line ≡ given → AddedBy x given b r entries pool → Added b line r entries pool
 unfolding addLine
 addedBy-line e f a = record { answered = rw (e, f) (a .answered); left = rw (e, f) (a .left) }
 

@@ -28,6 +28,7 @@ use Rattle.builder.specs.Built.{startOf, cut}
 use Rattle.builder.specs.Promises.{UsedFits, NextFits}
 use Rattle.builder.proofs.Refusals.{Scalar}
 
+-- a table that the builder has grown
 pub record Grown (b : Built) : Type 0 where
   pub fits : UsedFits b
   pub codes : (i : ℕ) → i < b .state .«entries_used» → faultyCode (cut b .entries) i ≡ false

@@ -81,6 +81,7 @@ module _ (b : Built) (line : List ℕ) where
 
 -- ---- an accepted line
 
+-- what is given is not refused
 unlessRefused-some : (x : Option Refusal) (given : Option Properties) (p : Properties) → unlessRefused x given ≡ some p
     → (x ≡ none) × (given ≡ some p)
 unlessRefused-some none given p e = (refl, e)
@@ -97,6 +98,7 @@ pub record Scalar (p : Properties) : Type 0 where
   pub title : scalar (p .title) ≡ true
   pub parts : all scalar (p .parts) ≡ true
 
+-- those of a mapping that 25 doesn't refuse
 scalars : (p : Properties) → saysNothing p ≡ false → surrogate p ≡ false → Scalar p
 scalars p m e =
     let t : scalar (p .code) && scalar (p .title) && all scalar (p .parts) ≡ true = not-false _ (rw m at e) in
@@ -111,6 +113,7 @@ pub record Passes (b : Built) (p : Properties) : Type 0 where
   pub scalar : saysNothing p ≡ false → Scalar p
   pub room : saysNothing p ≡ false → NextFits b p
 
+-- an accepted line passes
 pub passes : (b : Built) (line : List ℕ) (p : Properties) → accepted b line ≡ some p → Passes b p
 passes b line p e =
     let a = accepted-some b line p e in

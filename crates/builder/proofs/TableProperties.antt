@@ -37,6 +37,7 @@ propertiesIn t c o = record { code = c; title = titleIn (t .entries) c o; parts 
 abbrev properties : ℕ → ℕ → List ℕ → Properties
 properties c t ps = record { code = c; title = t; parts = ps }
 
+-- no elements
 length-zero : (xs : List ℕ) → length xs ≡ 0 → [] ≡ xs
 length-zero [] e = refl
 length-zero (x ∷ xs) e = absurd (omega arith)

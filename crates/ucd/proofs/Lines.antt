@@ -1,4 +1,4 @@
--- What a line gives: there is something where no check of its reading applies, and it has at most 32 parts.
+-- What a line gives: at most 32 parts, and something where no check of its reading applies.
 -- Assumes nothing.
 use mathlib.Core.Path.{_≡_, refl, sym, _∙_, ap}
 use mathlib.Core.Bool.{Bool, true, false, cond, _&&_}
@@ -61,6 +61,9 @@ unfolding readingRefusal
 fields-read line e =
     eqb-true (length (fields line)) 15 (not-false _ (when-none _ _ (first-none (readingChecks line) e 1)))
 
+-- ---- something is given
+
+-- what is there is something
 there-some : {A : Type 0} (o : Option A) → there o ≡ true → (a : A) × (o ≡ some a)
 there-some none e = let z : _≡_ {A = ℕ} 0 1 = cc in absurd (omega arith)
 there-some (some a) e = (a, refl)
