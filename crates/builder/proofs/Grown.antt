@@ -20,8 +20,7 @@ use Rattle.table.specs.Table.{Table, notAbove, faultyCode, countsBelow, faultyE
 use Rattle.table.proofs.Written.{length-putAt, take-putAt}
 use Rattle.table.proofs.Entries.{entryCount-putEntry}
 use Rattle.table.proofs.Form.{sound-fits}
-use Rattle.table.proofs.Appending.{codeAt-before, titleAt-before, startAt-before, countAt-before, countsBelow-before, notAbove-before}
-use Rattle.table.proofs.Appending.{codeAt-last, titleAt-last, startAt-last, countAt-last}
+use Rattle.table.proofs.Appending.{codeAt-before, titleAt-before, startAt-before, countAt-before, countsBelow-before, notAbove-before, codeAt-last, titleAt-last, startAt-last, countAt-last}
 use Rattle.ucd.specs.Lines.{Properties, saysNothing}
 use Rattle.builder.specs.Builder.{Built, entryFor, appended, moved}
 use Rattle.builder.specs.Built.{startOf, cut}

@@ -12,11 +12,10 @@ use Rattle.terms.specs.CodePoints.{scalar}
 use Rattle.terms.specs.Lists.{all, orElse}
 use Rattle.terms.specs.Refusals.{entriesMost, poolMost, partsMost, first, refusal}
 use Rattle.terms.specs.declared.Refusal.{Refusal}
-use Rattle.terms.proofs.Checks.{or-left, or-right, orElse-neither, when-none}
+use Rattle.terms.proofs.Checks.{or-left, or-right, orElse-neither, when-none, first-append, first-none}
 use Rattle.terms.proofs.Tests.{both}
 use Rattle.table.specs.Layout.{entryCount}
 use Rattle.ucd.specs.Lines.{Properties, lineProperties, saysNothing, lineCheck, readingChecks, readingRefusal}
-use Rattle.ucd.proofs.Rows.{first-append, first-none}
 use Rattle.ucd.proofs.Lines.{length-parts, lineProperties-read}
 use Rattle.builder.specs.Builder.{Built, overfull, impossible, surrogate, crowded, propertiesChecks, givenChecks, lineRefusal, unlessRefused, accepted}
 use Rattle.builder.specs.Promises.{Fits, NextFits, propertiesRefusal}

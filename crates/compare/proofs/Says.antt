@@ -3,7 +3,7 @@
 use mathlib.Core.Path.{_≡_, refl, sym}
 use mathlib.Core.Bool.{Bool, true, false, true≢false}
 use Prim.Native.Nat.{ℕ, Ordering, Ordering·lt, Ordering·eq, Ordering·gt}
-use mathlib.Core.Option.{Option, none, some}
+use mathlib.Core.Option.{none, some}
 use mathlib.Core.List.{List, [], _∷_}
 use Rattle.terms.specs.Refusals.{Outcome, refused, gives}
 use Rattle.terms.specs.declared.Collation.{Collation}
@@ -15,7 +15,7 @@ use Rattle.prepare.specs.Calls.{Lent, Call, call, preparedIn, callRefusal, Call
 use Rattle.prepare.proofs.Answering.{answered-gives}
 use Rattle.compare.specs.Compare.{equalityOutcome, orderOutcome, orderNumber, equalityNumber, compared, comparedValues, orderedBy, equalityBy}
 use Rattle.compare.specs.declared.Equality.{Equality}
-use Rattle.compare.specs.declared.Equality.the-variants.{Match, NoMatch}
+use Rattle.compare.specs.declared.Equality.the-variants.{Match}
 use Rattle.compare.specs.declared.Ordered.{Ordered}
 use Rattle.compare.specs.declared.Ordered.the-variants.{Less, Equal, Greater, Refused as Unordered}
 

@@ -25,7 +25,7 @@ use Rattle.terms.specs.declared.Collation.the-variants.{Octet, AsciiCasemap, Un
 use Rattle.terms.specs.declared.Refusal.{Refusal}
 use Rattle.terms.specs.declared.KeyPosition.{KeyPosition}
 use Rattle.terms.specs.declared.TextPosition.{TextPosition}
-use Rattle.terms.proofs.Checks.{answer-given, answer-refused}
+use Rattle.terms.proofs.Checks.{first-append, answer-given, answer-refused}
 use Rattle.terms.proofs.Injective.{checkOutcome-inj}
 use Rattle.utf8.specs.Utf8.{Character, characters}
 use Rattle.table.specs.Mapping.{Mapping}
@@ -64,7 +64,7 @@ use Rattle.builder.proofs.Adding.{addLine-refused}
 use Rattle.builder.proofs.BuiltForm.{built-form}
 use Rattle.builder.proofs.BuiltMapping.{mappingOf-built, built-line, built-other}
 use Rattle.demands.specs.Demands.{Given, FirstApplies, tableChecks, callChecks, CollationNumber, Precedes, OccursAt, Hit, Grows, Exact, Short, Bounds}
-use Rattle.demands.proofs.Rows.{first-exactly, first-append, first-callChecks}
+use Rattle.demands.proofs.Rows.{first-exactly, first-callChecks}
 use Rattle.demands.proofs.Numbers.{one-exactly, two-first, two-second, eight-first, eight-second}
 use Rattle.demands.proofs.Ordering.{less-exactly, greater-exactly}
 use Rattle.demands.proofs.Hits.{match-exactly, none-exactly, match-empty, run-same, run-covers, run-least}

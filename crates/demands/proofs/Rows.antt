@@ -9,7 +9,7 @@ use lib.ListN.{length, replicate}
 use Rattle.terms.specs.Lists.{orElse}
 use Rattle.terms.specs.Refusals.{first}
 use Rattle.terms.specs.declared.Refusal.{Refusal}
-use Rattle.terms.proofs.Checks.{orElse-assoc}
+use Rattle.terms.proofs.Checks.{orElse-assoc, first-append}
 use Rattle.terms.proofs.Tests.{none-some}
 use Rattle.keys.specs.Keys.{PreparedText}
 use Rattle.prepare.specs.Calls.{Lent, Call, lengths, preparedIn, lengthCheck, lengthChecks, tableCheck, collationCheck, roomCheck, roomChecks, roomRefusal, callRefusal}
@@ -31,11 +31,6 @@ first-some (some y ∷ cs) x e = record { passed = 0; rest = cs; row = cc }
 -- a row gives the first of its checks that applies
 pub first-exactly : (checks : List (Option Refusal)) (x : Refusal) → (first checks ≡ some x) ↔ FirstApplies checks x
 first-exactly checks x = (first-some checks x, λ a. ap first (a .row) ∙ first-past (a .passed) x (a .rest))
-
--- two rows, one after the other
-pub first-append : (xs ys : List (Option Refusal)) → first (xs ++ ys) ≡ orElse (first xs) (first ys)
-first-append [] ys = refl
-first-append (x ∷ xs) ys = rw (orElse-assoc x (first xs) (first ys), first-append xs ys)
 
 -- ---- a call on texts
 

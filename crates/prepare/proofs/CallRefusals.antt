@@ -16,7 +16,7 @@ use Rattle.terms.specs.declared.Refusal.{Refusal}
 use Rattle.terms.proofs.Checks.{orElse-none, orElse-first, orElse-second, orElse-neither, when-none}
 use Rattle.table.specs.Table.{Table}
 use Rattle.keys.specs.Keys.{tableUnder}
-use Rattle.prepare.specs.Calls.{Lent, Call, call, lengths, collationCheck, lengthChecks, textsRefusal, tableCheck, readyBy, readyRefusal, roomRefusal, callRefusal, Answers, Called, CalledReady}
+use Rattle.prepare.specs.Calls.{Lent, Call, call, lengths, collationCheck, lengthChecks, textsRefusal, tableCheck, readyBy, readyRefusal, roomRefusal, callRefusal, Called, CalledReady}
 use Rattle.prepare.specs.Preparing.{Prepares, PreparesReady}
 use Rattle.prepare.specs.Promises.{callCheckRefusal, ChecksTexts, ChecksCall}
 use Rattle.prepare.specs.declared.CallCheck.{CallCheck}

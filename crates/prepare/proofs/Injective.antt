@@ -1,6 +1,6 @@
 -- The answers of preparing one text and two are fixed by their numbers.
 -- Assumes nothing.
-use mathlib.Core.Path.{_≡_, refl}
+use mathlib.Core.Path.{_≡_}
 use Rattle.keys.specs.Summaries.{summaryNumbers}
 use Rattle.keys.proofs.Injective.{summaryNumbers-inj}
 use Rattle.prepare.specs.Preparing.{preparationOutcome, pairOutcome}

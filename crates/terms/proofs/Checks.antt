@@ -1,12 +1,13 @@
--- Laws of checks: one after another, where none applies, and what an answer says of them.
+-- Laws of checks: one after another, a row of them, where none applies, and what an answer says of them.
 -- Assumes nothing.
-use mathlib.Core.Path.{_≡_, refl}
+use mathlib.Core.Path.{_≡_, refl, sym, ap, _∙_}
 use mathlib.Core.Bool.{Bool, true, false, _||_}
 use mathlib.Core.Option.{Option, none, some}
-use mathlib.Core.List.{List, []}
-use Prim.Native.Nat.{ℕ}
+use mathlib.Core.List.{List, [], _∷_, _++_}
+use lib.ListN.{getD}
+use Prim.Native.Nat.{ℕ, zero, suc}
 use Rattle.terms.specs.Lists.{orElse, when}
-use Rattle.terms.specs.Refusals.{answer, refused, gives, checkRefusal, checkOutcome}
+use Rattle.terms.specs.Refusals.{first, answer, refused, gives, checkRefusal, checkOutcome}
 use Rattle.terms.specs.declared.Check.{Check}
 use Rattle.terms.specs.declared.Check.the-variants.{Passed, Refused}
 use Rattle.terms.specs.declared.Refusal.{Refusal}
@@ -53,6 +54,21 @@ module _ {A : Type 0} where
   pub when-none : (b : Bool) (a : A) → when b a ≡ none → b ≡ false
   when-none true a e = cc
   when-none false a e = refl
+
+-- ---- a row of checks, of which the first that applies is given
+
+-- one row after another
+pub first-append : (xs ys : List (Option Refusal)) → first (xs ++ ys) ≡ orElse (first xs) (first ys)
+first-append [] ys = refl
+first-append (x ∷ xs) ys = ap (orElse x) (first-append xs ys) ∙ sym (orElse-assoc x (first xs) (first ys))
+
+-- where none applies, each doesn't
+pub first-none : (xs : List (Option Refusal)) → first xs ≡ none → (i : ℕ) → getD xs i none ≡ none
+first-none [] e i = refl
+first-none (none ∷ xs) e zero = refl
+first-none (none ∷ xs) e (suc i) = first-none xs e i
+first-none (some r ∷ xs) e zero = e
+first-none (some r ∷ xs) e (suc i) = cc
 
 -- ---- answers
 

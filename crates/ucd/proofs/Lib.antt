@@ -1,4 +1,3 @@
-pub mod Rows
 pub mod Walks
 pub mod Cutting
 pub mod Digits

@@ -11,10 +11,9 @@ use lib.ListN.{length}
 use borrow.Author.Tests.{leb-true, eqb-true, not-false}
 use Rattle.terms.specs.Lists.{empty, there}
 use Rattle.terms.specs.Refusals.{partsMost}
-use Rattle.terms.proofs.Checks.{when-none}
+use Rattle.terms.proofs.Checks.{when-none, first-none}
 use Rattle.ucd.specs.Fields.{fields, field, cut, codePoint, codePoints, untagged, someParts, decomposition, titlecase}
 use Rattle.ucd.specs.Lines.{Properties, lineProperties, readingChecks, readingRefusal}
-use Rattle.ucd.proofs.Rows.{first-none}
 use Rattle.ucd.proofs.Listing.{optional-titlecase}
 
 -- ---- at most 32 parts

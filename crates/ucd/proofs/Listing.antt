@@ -16,8 +16,7 @@ use Rattle.terms.specs.Refusals.{partsMost}
 use Rattle.ucd.specs.Fields.{cut, codePoint, codePoints, tag, untagged, someParts, decomposition, optional, titlecase}
 use Rattle.ucd.specs.Promises.{pieceEnd}
 use Rattle.ucd.proofs.Walks.{empty-yes, empty-no}
-use Rattle.ucd.proofs.Cutting.{after, cut-step, cut-last, cut-more, cut-next}
-use Rattle.ucd.proofs.Cutting.{Stands, stands-first, stands-more, stands-count, stands-end}
+use Rattle.ucd.proofs.Cutting.{after, cut-step, cut-last, cut-more, cut-next, Stands, stands-first, stands-more, stands-count, stands-end}
 
 -- ---- code points before others
 

@@ -7,8 +7,7 @@ use mathlib.Core.Logic.{⊎-elim}
 use lib.ListN.{length}
 use Rattle.occurrence.specs.Matches.{Matched, Unmatched}
 use Rattle.occurrence.proofs.Matching.{matched-none}
-use Rattle.occurrence.proofs.Searching.{matched-shifted, unmatched-none, unmatched-on, occurrence-matched}
-use Rattle.occurrence.proofs.Searching.{occurrence-unmatched, Reached, reached-skipped, reached-kept}
+use Rattle.occurrence.proofs.Searching.{matched-shifted, unmatched-none, unmatched-on, occurrence-matched, occurrence-unmatched, Reached, reached-skipped, reached-kept}
 use Rattle.occurrence.proofs.places.search.Statement.{statement}
 use Rattle.occurrence.proofs.places.search.Tie as tie
 

@@ -5,8 +5,7 @@ use native.Mathlib.Omega.{arith}
 use lib.ListN.{length}
 use mathlib.Core.Logic.{⊎-elim}
 use Rattle.occurrence.proofs.Coverage.{rows-all}
-use Rattle.occurrence.proofs.Candidates.{Table, Candidate, table-none, candidate-first, table-short, table-reached}
-use Rattle.occurrence.proofs.Candidates.{table-noted, table-same, table-on, candidate-on}
+use Rattle.occurrence.proofs.Candidates.{Table, Candidate, table-none, candidate-first, table-short, table-reached, table-noted, table-same, table-on, candidate-on}
 use Rattle.occurrence.proofs.rows.note.Statement.{statement}
 use Rattle.occurrence.proofs.rows.note.Tie as tie
 
