@@ -1,4 +1,4 @@
--- What becomes of a line by its refusal and what it gives.
+-- What becomes of a line by its refusal and what it gives, and the state and slices after it.
 -- Assumes nothing.
 use mathlib.Core.Path.{_≡_, refl, ap}
 use mathlib.Core.Option.{Option, none, some}
@@ -7,7 +7,7 @@ use Prim.Native.Nat.{ℕ}
 use Rattle.terms.specs.Refusals.{gives}
 use Rattle.terms.specs.declared.Refusal.{Refusal}
 use Rattle.ucd.specs.Lines.{Properties, lineProperties}
-use Rattle.builder.specs.Builder.{Built, built, lineRefusal, added, unlessRefused, accepted, addGiven, addLine, stateNumbers, Added}
+use Rattle.builder.specs.Builder.{Built, built, lineRefusal, added, accepted, addGiven, addLine, stateNumbers, Added}
 use Rattle.builder.specs.Promises.{AddedBy}
 use Rattle.builder.specs.declared.LineState.{LineState}
 use Rattle.builder.specs.declared.Line.{Line}
@@ -19,29 +19,19 @@ module _ (b : Built) {x : Option Refusal} {given : Option Properties} where
   addedBy-refused e = rw e (record { answered = refl; left = refl })
 
   -- what is not refused is stored
-  pub addedBy-taken : {p : Properties} {st : LineState} {es pool : List ℕ}
-      → x ≡ none → given ≡ some p → built st es pool ≡ added b p → AddedBy x given b (Taken st) es pool
+  pub addedBy-taken : {p : Properties} {st : LineState} {entries pool : List ℕ}
+      → x ≡ none → given ≡ some p → built st entries pool ≡ added b p → AddedBy x given b (Taken st) entries pool
   addedBy-taken e f s = rw (e, f) (record { answered = ap (λ (c : Built). gives (stateNumbers (c .state))) s; left = s })
 
 -- so of a line by its refusal and its properties
-pub addedBy-line : {b : Built} {line : List ℕ} {x : Option Refusal} {given : Option Properties} {r : Line} {es pool : List ℕ}
-    → lineRefusal b line ≡ x → lineProperties line ≡ given → AddedBy x given b r es pool → Added b line r es pool
+pub addedBy-line : {b : Built} {line : List ℕ} {x : Option Refusal} {given : Option Properties} {r : Line} {entries pool : List ℕ}
+    → lineRefusal b line ≡ x → lineProperties line ≡ given → AddedBy x given b r entries pool → Added b line r entries pool
 unfolding addLine
 addedBy-line e f a = record { answered = rw (e, f) (a .answered); left = rw (e, f) (a .left) }
 
 -- ---- the state and slices after a line
 
-unlessRefused-some : (x : Option Refusal) (given : Option Properties) (p : Properties) → unlessRefused x given ≡ some p
-    → (x ≡ none) × (given ≡ some p)
-unlessRefused-some none given p e = (refl, e)
-unlessRefused-some (some r) given p e = (cc, cc)
-
--- an accepted line is not refused, and gives what it gives
-pub accepted-some : (b : Built) (line : List ℕ) (p : Properties) → accepted b line ≡ some p
-    → (lineRefusal b line ≡ none) × (lineProperties line ≡ some p)
-accepted-some b line p e = unlessRefused-some (lineRefusal b line) (lineProperties line) p e
-
--- it is stored
+-- an accepted line is stored
 pub addLine-accepted : (b : Built) (line : List ℕ) (p : Properties) → accepted b line ≡ some p → addLine b line ≡ added b p
 unfolding addLine
 addLine-accepted b line p e = ap (addGiven b) e

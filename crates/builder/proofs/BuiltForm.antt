@@ -1,8 +1,8 @@
 -- The table of a sequence of lines is grown, and so passes checks 3 to 6: "A table grown from the fresh state (all zeros), with
 -- nothing altered between calls and the slices cut to what is used, passes checks 3 to 6."
 -- Assumes nothing.
-use mathlib.Core.Path.{_≡_, refl, sym, _∙_, ap, subst⁻¹}
-use Prim.Native.Nat.{ℕ, _≤_}
+use mathlib.Core.Path.{_≡_, refl, ap, subst⁻¹}
+use Prim.Native.Nat.{ℕ}
 use native.Mathlib.Omega.{arith}
 use mathlib.Core.Bool.{Bool, true, false, cond, not}
 use mathlib.Core.Option.{Option, none, some}
@@ -10,19 +10,19 @@ use mathlib.Core.List.{List, [], _∷_}
 use lib.ListN.{length}
 use borrow.Author.Tests.{le-ltb}
 use Rattle.terms.specs.CodePoints.{scalar}
-use Rattle.terms.specs.Refusals.{entriesMost, poolMost, partsMost}
+use Rattle.terms.specs.Refusals.{entriesMost, poolMost}
 use Rattle.terms.proofs.Lists.{all-at}
 use Rattle.table.specs.Layout.{entryCount}
 use Rattle.table.specs.Table.{Table, countsBelow, formRefusal}
 use Rattle.table.proofs.Entries.{entryCount-firstEntries, wholeEntries-firstEntries}
 use Rattle.table.proofs.Form.{form-formed}
 use Rattle.ucd.specs.Lines.{Properties, saysNothing}
-use Rattle.ucd.proofs.Lines.{length-parts}
 use Rattle.builder.specs.Builder.{Built, moved, appended, added, accepted, addLine, addLines}
 use Rattle.builder.specs.Built.{startOf, cut}
+use Rattle.builder.specs.Promises.{UsedFits}
 use Rattle.builder.proofs.Refusals.{Passes, passes}
-use Rattle.builder.proofs.Adding.{accepted-some, addLine-accepted, addLine-none}
-use Rattle.builder.proofs.Grown.{Grown, length-pool, grown-start, grown-moved, grown-appended}
+use Rattle.builder.proofs.Adding.{addLine-accepted, addLine-none}
+use Rattle.builder.proofs.Grown.{Grown, length-pool, grown-start, grown-moved, fits-appended, grown-appended}
 
 -- ---- the form
 
@@ -54,12 +54,12 @@ grown-form {b} g =
 -- ---- lines
 
 -- with what an accepted line gives it is grown
-grown-added : (b : Built) (p : Properties) → Grown b → Passes b p → length (p .parts) ≤ partsMost → Grown (added b p)
-grown-added b p g ok few = go (saysNothing p) refl
+grown-added : (b : Built) (p : Properties) → Grown b → Passes b p → Grown (added b p)
+grown-added b p g ok = go (saysNothing p) refl
   where
     go : (t : Bool) → saysNothing p ≡ t → Grown (cond t (moved b p) (appended b p))
     go true e = grown-moved p g (ok .next)
-    go false e = grown-appended b p g (ok .next) (ok .room e) e (ok .scalar e) few
+    go false e = grown-appended b p g (ok .next) (ok .room e) e (ok .scalar e) (ok .few)
 
 -- whatever the line
 pub grown-addLine : (b : Built) (line : List ℕ) → Grown b → Grown (addLine b line)
@@ -67,10 +67,19 @@ grown-addLine b line g = go (accepted b line) refl
   where
     go : (o : Option Properties) → accepted b line ≡ o → Grown (addLine b line)
     go none e = subst⁻¹ Grown (addLine-none b line e) g
-    go (some p) e =
-        let a = accepted-some b line p e in
-        subst⁻¹ Grown (addLine-accepted b line p e)
-        (grown-added b p g (passes b line p (a .0) (a .1)) (length-parts line p (a .1)))
+    go (some p) e = subst⁻¹ Grown (addLine-accepted b line p e) (grown-added b p g (passes b line p e))
+
+-- what is used has room after it, whatever the line
+pub fits-addLine : (b : Built) (line : List ℕ) → UsedFits b → UsedFits (addLine b line)
+fits-addLine b line fits = go (accepted b line) refl
+  where
+    stored : (p : Properties) → Passes b p → (t : Bool) → saysNothing p ≡ t → UsedFits (cond t (moved b p) (appended b p))
+    stored p ok true e = fits
+    stored p ok false e = fits-appended b p (ok .room e)
+
+    go : (o : Option Properties) → accepted b line ≡ o → UsedFits (addLine b line)
+    go none e = rw (addLine-none b line e) fits
+    go (some p) e = rw (addLine-accepted b line p e) (stored p (passes b line p e) (saysNothing p) refl)
 
 -- whatever the lines
 pub grown-addLines : (b : Built) (lines : List (List ℕ)) → Grown b → Grown (addLines b lines)

@@ -13,8 +13,8 @@ use Rattle.table.specs.Table.{Table, titleOf, partsOf, mappingOf}
 use Rattle.ucd.specs.Lines.{Properties, saysNothing}
 use Rattle.builder.specs.Builder.{Built, moved, appended, added, accepted, addLine, addLines}
 use Rattle.builder.specs.Built.{startOf, cut, Accepted, andGiven, acceptedOf, itself, propertiesOf, propertiesMapping}
-use Rattle.builder.proofs.Refusals.{Passes, passes}
-use Rattle.builder.proofs.Adding.{accepted-some, addLine-accepted, addLine-none}
+use Rattle.builder.proofs.Refusals.{accepted-some, passes}
+use Rattle.builder.proofs.Adding.{addLine-accepted, addLine-none}
 use Rattle.builder.proofs.Grown.{Grown, grown-start}
 use Rattle.builder.proofs.BuiltForm.{grown-addLine, grown-addLines}
 use Rattle.builder.proofs.TableProperties.{tableProperties, tableProperties-above, tableProperties-added}
@@ -33,9 +33,6 @@ next-added b p = go (saysNothing p)
     go false = refl
 
 module _ (b : Built) (line : List ℕ) (p : Properties) (taken : accepted b line ≡ some p) where
-  ok : Passes b p
-  ok = let a = accepted-some b line p taken in passes b line p (a .0) (a .1)
-
   -- the next code point after an accepted line
   next-accepted : addLine b line .state .next ≡ p .code + 1
   next-accepted = ap (λ (x : Built). x .state .next) (addLine-accepted b line p taken) ∙ next-added b p
@@ -43,7 +40,7 @@ module _ (b : Built) (line : List ℕ) (p : Properties) (taken : accepted b line
   -- of its code point the table has what it gives, of the others what it had before
   builtProperties-accepted : Grown b → (c : ℕ) → builtProperties (addLine b line) c ≡ cond (eqb (p .code) c) p (builtProperties b c)
   builtProperties-accepted g c =
-      ap (λ (x : Built). builtProperties x c) (addLine-accepted b line p taken) ∙ tableProperties-added b p g ok c
+      ap (λ (x : Built). builtProperties x c) (addLine-accepted b line p taken) ∙ tableProperties-added b p g (passes b line p taken) c
 
 -- ---- a sequence of lines
 
@@ -69,7 +66,7 @@ acceptedOf-below b (line ∷ lines) d c h = go (accepted b line) refl (acceptedO
         → propertiesElse d (andGiven o (acceptedOf (addLine b line) lines)) c ≡ d
     go none e rest = rest (rw (addLine-none b line e) h)
     go (some p) e rest =
-        let above = ok b line p e .next in
+        let above = passes b line p e .next in
         rw (ne-eqb (p .code) c (λ s. omega arith)) (rest (omega (arith, next-accepted b line p e)))
 
 -- after the lines the table has what the accepted ones give, and else what it had before

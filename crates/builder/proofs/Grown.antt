@@ -7,7 +7,7 @@ use native.Mathlib.Numerals.{add-one}
 use native.Mathlib.Omega.{arith}
 use mathlib.Core.Bool.{true, false}
 use mathlib.Core.List.{_++_}
-use lib.ListN.{length, take, length-append}
+use lib.ListN.{length, length-append}
 use lib.Seq.{length-take-le}
 use borrow.Author.Count.{below-more}
 use borrow.Author.Tests.{lt-leb, le-ltb, eq-eqb}
@@ -28,6 +28,7 @@ use Rattle.builder.specs.Built.{startOf, cut}
 use Rattle.builder.specs.Promises.{UsedFits, NextFits}
 use Rattle.builder.proofs.Refusals.{Scalar}
 
+-- a table that the builder has grown
 pub record Grown (b : Built) : Type 0 where
   pub fits : UsedFits b
   pub codes : (i : ℕ) → i < b .state .«entries_used» → faultyCode (cut b .entries) i ≡ false
@@ -68,6 +69,14 @@ grown-moved p g next = record {
 -- its parts stand last in the pool
 pub pool-appended : (b : Built) (p : Properties) → NextFits b p → cut (appended b p) .pool ≡ cut b .pool ++ p .parts
 pool-appended b p room = take-putAt (b .state .«pool_used») (p .parts) (b .table .pool) (room .pool-held)
+
+-- what is used then has room
+pub fits-appended : (b : Built) (p : Properties) → NextFits b p → UsedFits (appended b p)
+fits-appended b p room =
+    let n = b .state .«entries_used» in
+    let long = length-putAt (b .state .«pool_used») (p .parts) (b .table .pool) (room .pool-held) in
+    let many = entryCount-putEntry (b .table .entries) n (entryFor (b .state) p) (omega (arith, room .entries-held)) in
+    omega (arith, room)
 
 module _ (b : Built) (p : Properties) (g : Grown b) (next : b .state .next ≤ p .code) (room : NextFits b p) where
   abbrev n : ℕ
@@ -152,12 +161,7 @@ module _ (b : Built) (p : Properties) (g : Grown b) (next : b .state .next ≤ p
   pub grown-appended : saysNothing p ≡ false → Scalar p → length (p .parts) ≤ partsMost → Grown (appended b p)
   unfolding countsBelow
   grown-appended maps s few = record {
-    fits = record {
-      entries-held = omega (arith, room, entryCount-putEntry (b .table .entries) n e within);
-      entries-limit = room .entries-limit;
-      pool-held = omega (arith, room, length-putAt (b .state .«pool_used») (p .parts) (b .table .pool) (room .pool-held));
-      pool-limit = room .pool-limit;
-    };
+    fits = fits-appended b p room;
     codes = below-more _ n code-before (code-last s);
     entries = below-more _ n entry-before (entry-last maps few);
     below =

@@ -2,7 +2,7 @@
 -- line of its code point, and of the others what they were.
 -- Assumes nothing.
 use mathlib.Core.Path.{_≡_, refl, sym, _∙_, ap, ap₂}
-use Prim.Native.Nat.{ℕ, _+_, _≤_, _<_}
+use Prim.Native.Nat.{ℕ, _≤_, _<_}
 use native.Mathlib.Omega.{arith}
 use mathlib.Core.Bool.{Bool, true, false, cond}
 use mathlib.Core.Option.{Option, none, some}
@@ -13,11 +13,11 @@ use lib.Seq.{take-length, drop-at, take-append-le, drop-append-le}
 use borrow.Author.Tests.{eqb-true}
 use Rattle.terms.specs.Lists.{orElse, when}
 use Rattle.terms.proofs.Tests.{both}
-use Rattle.table.specs.Layout.{Entry, entryCount, codeAt, startAt, countAt}
+use Rattle.table.specs.Layout.{Entry, entryCount, startAt, countAt}
 use Rattle.table.specs.Table.{Table, entryOf, titleIn, titleOf, partsIn, partsOf}
 use Rattle.table.proofs.Form.{formed-fits, entryOf-none, entryOf-some}
 use Rattle.table.proofs.Appending.{titleAt-before, startAt-before, countAt-before, titleAt-last, startAt-last, countAt-last, entryOf-append}
-use Rattle.ucd.specs.Lines.{Properties, properties, saysNothing}
+use Rattle.ucd.specs.Lines.{Properties, saysNothing}
 use Rattle.builder.specs.Builder.{Built, entryFor, appended, moved, added}
 use Rattle.builder.specs.Built.{cut, itself}
 use Rattle.builder.specs.Promises.{NextFits}
@@ -27,12 +27,17 @@ use Rattle.builder.proofs.BuiltForm.{entryCount-cut, grown-form}
 
 -- the properties that a table gives a code point
 abbrev pub tableProperties : Table → ℕ → Properties
-tableProperties t c = properties c (titleOf (t .entries) c) (partsOf t c)
+tableProperties t c = record { code = c; title = titleOf (t .entries) c; parts = partsOf t c }
 
 -- the same by the entry that was found
 abbrev propertiesIn : Table → ℕ → Option ℕ → Properties
-propertiesIn t c o = properties c (titleIn (t .entries) c o) (partsIn t o)
+propertiesIn t c o = record { code = c; title = titleIn (t .entries) c o; parts = partsIn t o }
 
+-- properties by their values
+abbrev properties : ℕ → ℕ → List ℕ → Properties
+properties c t ps = record { code = c; title = t; parts = ps }
+
+-- no elements
 length-zero : (xs : List ℕ) → length xs ≡ 0 → [] ≡ xs
 length-zero [] e = refl
 length-zero (x ∷ xs) e = absurd (omega arith)
@@ -58,7 +63,7 @@ module _ (b : Built) (g : Grown b) where
   module _ (p : Properties) (next : b .state .next ≤ p .code) where
     -- ---- a line that says nothing
 
-    pub tableProperties-moved : saysNothing p ≡ true
+    tableProperties-moved : saysNothing p ≡ true
         → (c : ℕ) → tableProperties (cut (moved b p)) c ≡ cond (eqb (p .code) c) p (tableProperties (cut b) c)
     tableProperties-moved nothing c = go (eqb (p .code) c) refl
       where
@@ -116,7 +121,7 @@ module _ (b : Built) (g : Grown b) where
       by-before c none f = refl
       by-before c (some i) f = by-entry c i (omega (arith, entryOf-some (cut b .entries) c i f .0, entryCount-cut g))
 
-      pub tableProperties-appended : (c : ℕ)
+      tableProperties-appended : (c : ℕ)
           → tableProperties (cut (appended b p)) c ≡ cond (eqb (p .code) c) p (tableProperties (cut b) c)
       tableProperties-appended c =
           ap (propertiesIn after c) (entryOf-append n e (b .table .entries) within c) ∙ go (eqb (p .code) c) refl

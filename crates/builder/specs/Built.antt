@@ -11,7 +11,7 @@ use lib.ListN.{take}
 use Rattle.table.specs.Layout.{firstEntries}
 use Rattle.table.specs.Table.{Table, table}
 use Rattle.table.specs.Mapping.{Mapping}
-use Rattle.ucd.specs.Lines.{Properties, properties, lineProperties}
+use Rattle.ucd.specs.Lines.{Properties, lineProperties}
 use Rattle.builder.specs.Builder.{Built, lineRefusal, accepted, addLine, addLines, fresh}
 
 -- ---- the table
@@ -48,7 +48,7 @@ acceptedOf b (line ∷ lines) = andGiven (accepted b line) (acceptedOf (addLine 
 
 -- a code point of which nothing is said: it "maps to itself"
 abbrev pub itself : ℕ → Properties
-itself c = properties c c []
+itself c = record { code = c; title = c; parts = [] }
 
 -- the properties of a code point: those of the first that has it, if one does
 unfoldable pub propertiesOf : List Properties → ℕ → Properties

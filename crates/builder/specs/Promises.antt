@@ -39,5 +39,5 @@ unfoldable pub propertiesRefusal : Built → Properties → Option Refusal
 propertiesRefusal b p = first (propertiesChecks (b .state) (entryCount (b .table .entries)) (length (b .table .pool)) p)
 
 -- properties were added, unless one of these refuses them
-abbrev pub Adds : Built → Properties → Line → List ℕ → List ℕ → Type 0
-Adds b p r entries pool = AddedBy (propertiesRefusal b p) (some p) b r entries pool
+abbrev pub AddedGiven : Built → Properties → Line → List ℕ → List ℕ → Type 0
+AddedGiven b p r entries pool = AddedBy (propertiesRefusal b p) (some p) b r entries pool

@@ -2,14 +2,13 @@
 // line gives 25 and 27.
 use crate::LineState;
 use table::layout;
+use ucd::SimpleProperties;
 ghost use mathlib.Core.Path.{_≡_};
 ghost use Prim.Native.Nat.{_≤_};
 ghost use lib.ListN.{length};
-ghost use Rattle.terms.specs.CodePoints.{scalar};
-ghost use Rattle.terms.specs.Lists.{all};
 ghost use Rattle.terms.specs.Refusals.{partsMost};
 ghost use Rattle.table.specs.Layout.{entryCount};
-ghost use Rattle.ucd.specs.Lines.{properties, saysNothing};
+ghost use Rattle.ucd.specs.Lines.{withParts, saysNothing};
 ghost use Rattle.builder.specs.Builder.{built, overfull, impossible, surrogate, crowded};
 ghost use Rattle.builder.specs.Promises.{UsedFits};
 
@@ -29,8 +28,7 @@ pub fn is_impossible(state: LineState, entries: &[u32], pool: &[u32]) -> bool
 // Whether there is no room for what a line gives, or a limit is passed.
 pub fn is_crowded(
     state: LineState,
-    code: u32,
-    title: u32,
+    simple: SimpleProperties,
     parts: &[u32],
     entries: &[u32],
     pool: &[u32],
@@ -38,9 +36,9 @@ pub fn is_crowded(
     requires { ⌜ UsedFits (built state (now entries) (now pool)) ⌝ }
     requires { ⌜ length (now parts) ≤ partsMost ⌝ }
     ensures { λ r. ⌜ r ≡ crowded state (entryCount (now (entries .entry))) (length (now (pool .entry)))
-        (properties code title (now (parts .entry))) ⌝ }
+        (withParts simple (now (parts .entry))) ⌝ }
 {
-    if says_nothing(code, title, parts) {
+    if says_nothing(simple, parts) {
         return false;
     }
     is_overfull(
@@ -68,41 +66,34 @@ fn is_overfull(used: usize, filled: usize, entries: &[u32], pool: &[u32]) -> boo
 }
 
 // Whether a line with a mapping has a surrogate.
-pub fn has_surrogate(code: u32, title: u32, parts: &[u32]) -> bool
-    ensures { λ r. ⌜ r ≡ surrogate (properties code title (now (parts .entry))) ⌝ }
+pub fn has_surrogate(simple: SimpleProperties, parts: &[u32]) -> bool
+    ensures { λ r. ⌜ r ≡ surrogate (withParts simple (now (parts .entry))) ⌝ }
 {
-    if says_nothing(code, title, parts) {
+    if says_nothing(simple, parts) {
         return false;
     }
-    if !terms::is_scalar(code) {
+    if !terms::is_scalar(simple.code) {
         return true;
     }
-    if !terms::is_scalar(title) {
+    if !terms::is_scalar(simple.title) {
         return true;
     }
-    !is_scalar_only(parts)
-}
-
-// Whether a line says nothing: its titlecase is itself, and it has no parts.
-pub fn says_nothing(code: u32, title: u32, parts: &[u32]) -> bool
-    ensures { λ r. ⌜ r ≡ saysNothing (properties code title (now (parts .entry))) ⌝ }
-{
-    if title != code {
-        return false;
-    }
-    parts.len() == 0
-}
-
-// Whether all numbers are scalar.
-fn is_scalar_only(numbers: &[u32]) -> bool
-    ensures { λ r. ⌜ r ≡ all scalar (now (numbers .entry)) ⌝ }
-{
     let mut i = 0;
-    while i < numbers.len() {
-        if !terms::is_scalar(numbers[i]) {
-            return false;
+    while i < parts.len() {
+        if !terms::is_scalar(parts[i]) {
+            return true;
         }
         i += 1;
     }
-    true
+    false
+}
+
+// Whether a line says nothing: its titlecase is itself, and it has no parts.
+pub fn says_nothing(simple: SimpleProperties, parts: &[u32]) -> bool
+    ensures { λ r. ⌜ r ≡ saysNothing (withParts simple (now (parts .entry))) ⌝ }
+{
+    if simple.title != simple.code {
+        return false;
+    }
+    parts.len() == 0
 }

@@ -8,13 +8,14 @@ mod storing;
 
 use terms::Refusal;
 use ucd::Reading;
+use ucd::SimpleProperties;
 ghost use mathlib.Core.Path.{_≡_};
 ghost use Prim.Native.Nat.{_≤_};
 ghost use lib.ListN.{length};
 ghost use Rattle.terms.specs.Refusals.{partsMost, refusal};
-ghost use Rattle.ucd.specs.Lines.{properties};
+ghost use Rattle.ucd.specs.Lines.{withParts};
 ghost use Rattle.builder.specs.Builder.{built, Added};
-ghost use Rattle.builder.specs.Promises.{UsedFits, Adds};
+ghost use Rattle.builder.specs.Promises.{UsedFits, AddedGiven};
 
 // The builder's state: entries used, pool numbers used, and one more than the last code point, or 0. All zeros is fresh.
 pub struct LineState {
@@ -40,9 +41,7 @@ pub fn add_line(state: LineState, line: &[u8], entries: &mut [u32], pool: &mut [
     let mut parts = [0u32; terms::PARTS_MOST];
     let reading = ucd::read_line(line, &mut parts);
     match reading {
-        Reading::Read { code, title, count } => {
-            add_given(state, code, title, &parts[..count], entries, pool)
-        }
+        Reading::Read(simple, count) => { add_given(state, simple, &parts[..count], entries, pool) }
         Reading::Refused(number) => refused(number, state),
     }
 }
@@ -50,28 +49,27 @@ pub fn add_line(state: LineState, line: &[u8], entries: &mut [u32], pool: &mut [
 // Adds what a line gives, unless 25, 26 or 27 applies.
 fn add_given(
     state: LineState,
-    code: u32,
-    title: u32,
+    simple: SimpleProperties,
     parts: &[u32],
     entries: &mut [u32],
     pool: &mut [u32],
 ) -> Line
     requires { ⌜ UsedFits (built state (now entries) (now pool)) ⌝ }
     requires { ⌜ length (now parts) ≤ partsMost ⌝ }
-    ensures { λ r. ⌜ Adds (built state (now (entries .entry)) (now (pool .entry))) (properties code title (now (parts .entry)))
+    ensures { λ r. ⌜ AddedGiven (built state (now (entries .entry)) (now (pool .entry))) (withParts simple (now (parts .entry)))
         r (now (entries .exit)) (now (pool .exit)) ⌝ }
 {
-    if checks::has_surrogate(code, title, parts) {
+    if checks::has_surrogate(simple, parts) {
         return refused(terms::REFUSED_SURROGATE, state);
     }
-    let c = code as usize;
-    if c < state.next {
+    let code = simple.code as usize;
+    if code < state.next {
         return refused(terms::REFUSED_ORDER, state);
     }
-    if checks::is_crowded(state, code, title, parts, entries, pool) {
+    if checks::is_crowded(state, simple, parts, entries, pool) {
         return refused(terms::REFUSED_NO_ROOM, state);
     }
-    Line::Taken(storing::store(state, code, title, parts, entries, pool))
+    Line::Taken(storing::store(state, simple, parts, entries, pool))
 }
 
 // A line refused by its number, with the state that came in.

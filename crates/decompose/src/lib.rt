@@ -5,25 +5,26 @@
 // code points or 8 levels, and every code point that is looked up either takes one of the 32 or is split into ones that do;
 // so on each of the levels 0 to 8 at most 33 are looked up, some 300 in all.
 // The functions on one expansion ask for an accepted table.
+mod depth;
+
 use table::Place;
 use table::layout;
 use terms::Check;
 use terms::CodePoint;
 ghost use mathlib.Core.Path.{_≡_};
 ghost use mathlib.Core.Bool.{true};
-ghost use mathlib.Core.List.{[]};
 ghost use mathlib.Core.Option.{none, some};
 ghost use Prim.Native.Nat.{_≤_};
 ghost use lib.ListN.{length};
 ghost use Rattle.terms.specs.CodePoints.{scalar};
-ghost use Rattle.terms.specs.Refusals.{answer, checkOutcome};
+ghost use Rattle.terms.specs.Refusals.{checkOutcome};
 ghost use Rattle.utf8.specs.Utf8.{encodes};
 ghost use Rattle.table.specs.Layout.{titleAt};
-ghost use Rattle.table.specs.Table.{table, refusedAt, formRefusal, entryOf, partsOf, mappingOf};
+ghost use Rattle.table.specs.Table.{table, formRefusal, entryOf, partsOf, mappingOf};
 ghost use Rattle.decompose.specs.Levels.{full};
 ghost use Rattle.decompose.specs.Steps.{expanded};
-ghost use Rattle.decompose.specs.TableCheck.{levelFault, tableRefusal, tableAnswer};
-ghost use Rattle.decompose.specs.Promises.{measured, measuredSize, Split, Bounded, FullCounted, FullFilled, ExpansionCounted, ExpansionFilled};
+ghost use Rattle.decompose.specs.TableCheck.{tableRefusal, tableAnswer};
+ghost use Rattle.decompose.specs.Promises.{Split, Bounded, FullCounted, FullFilled, ExpansionCounted, ExpansionFilled};
 
 // How many code points a code point unfolds into.
 pub enum Measurement {
@@ -44,7 +45,7 @@ pub fn check_table(entries: &[u32], pool: &[u32]) -> Check
 {
     let form = table::check_form(entries, pool);
     match form {
-        Check::Passed => check_levels(entries, pool),
+        Check::Passed => depth::check_levels(entries, pool),
         Check::Refused(r) => Check::Refused(r),
     }
 }
@@ -109,77 +110,6 @@ fn title_parts<'a>(c: CodePoint, i: usize, entries: &[u32], pool: &'a [u32]) -> 
         return table::parts_at(entries, pool, i);
     }
     table::parts_of(entries, pool, CodePoint(title))
-}
-
-// Whether 7 refuses a table of the form.
-fn check_levels(entries: &[u32], pool: &[u32]) -> Check
-    requires { ⌜ formRefusal (table (now entries) (now pool)) ≡ none ⌝ }
-    ensures { λ r. ⌜ checkOutcome r ≡ answer (refusedAt 7 (levelFault (table (now (entries .entry)) (now (pool .entry))))) [] ⌝ }
-{
-    let count = layout::entry_count(entries);
-    let mut i = 0;
-    while i < count {
-        let parts = table::parts_at(entries, pool, i);
-        // A code point with no parts unfolds into itself.
-        if parts.len() != 0 {
-            let measurement = measure(
-                terms::LEVELS_MOST,
-                CodePoint(layout::code_at(entries, i)),
-                parts,
-                terms::FULL_MOST,
-                entries,
-                pool,
-            );
-            if let Measurement::TooMuch = measurement {
-                return table::refused_at(terms::REFUSED_LEVEL, i);
-            }
-        }
-        i += 1;
-    }
-    Check::Passed
-}
-
-// How many code points a code point that has these parts unfolds into, if within the levels left and into at most `room`.
-fn measure(
-    levels_left: usize,
-    c: CodePoint,
-    parts: &[u32],
-    room: usize,
-    entries: &[u32],
-    pool: &[u32],
-) -> Measurement
-    requires { ⌜ formRefusal (table (now entries) (now pool)) ≡ none ⌝ }
-    requires { ⌜ Split (mappingOf (table (now entries) (now pool))) (c .0) (now parts) ⌝ }
-    ensures { λ r. ⌜ measuredSize r ≡ measured (mappingOf (table (now (entries .entry)) (now (pool .entry)))) «levels_left» room (c .0) ⌝ }
-{
-    if levels_left == 0 {
-        return Measurement::TooMuch;
-    }
-    let mut total = 0;
-    let mut i = 0;
-    while i < parts.len() {
-        let part = CodePoint(parts[i]);
-        let inner = table::parts_of(entries, pool, part);
-        // Most parts are whole, and a call costs more than counting one.
-        if inner.len() == 0 {
-            if total == room {
-                return Measurement::TooMuch;
-            }
-            total += 1;
-        } else {
-            let measurement = measure(levels_left - 1, part, inner, room - total, entries, pool);
-            match measurement {
-                Measurement::Fits(n) => {
-                    total += n;
-                }
-                Measurement::TooMuch => {
-                    return Measurement::TooMuch;
-                }
-            }
-        }
-        i += 1;
-    }
-    Measurement::Fits(total)
 }
 
 // The octets of the full decomposition of a code point that has these parts, and the asks of its unfolding.

@@ -4,14 +4,15 @@ use mathlib.Core.Path.{_≡_, refl, sym, _∙_, ap, ap₂}
 use Prim.Native.Nat.{ℕ, zero, suc, _+_, _≤_, _<_}
 use native.Mathlib.Numerals.{add-one}
 use native.Mathlib.Omega.{arith}
+use mathlib.Core.Bool.{true}
 use mathlib.Core.List.{List}
 use lib.Dec.{leb, eqb}
 use lib.ListN.{getD}
 use Rattle.terms.specs.Lists.{lowest, orElse, when}
 use Rattle.terms.proofs.Lowest.{lowest-cong}
-use Rattle.table.specs.Layout.{entryWidth, Entry, entryNumbers, entryCount, numberAt, codeAt, titleAt, startAt, countAt, putEntry, firstEntries}
+use Rattle.table.specs.Layout.{entryWidth, Entry, entryNumbers, entryCount, wholeEntries, numberAt, codeAt, titleAt, startAt, countAt, putEntry, firstEntries}
 use Rattle.table.specs.Table.{notAbove, countsBelow, entryOf}
-use Rattle.table.proofs.Entries.{entryCount-putEntry, numberAt-putEntry, numberAt-putEntry-other, numberAt-firstEntries, entryCount-firstEntries}
+use Rattle.table.proofs.Entries.{entryCount-putEntry, numberAt-putEntry, numberAt-putEntry-other, numberAt-firstEntries, entryCount-firstEntries, wholeEntries-firstEntries}
 
 -- the first n entries after one more was written behind them
 abbrev pub appendEntry : ℕ → Entry → List ℕ → List ℕ
@@ -21,6 +22,10 @@ module _ (n : ℕ) (e : Entry) (es : List ℕ) (room : n < entryCount es) where
   -- they are one more
   pub entryCount-append : entryCount (appendEntry n e es) ≡ n + 1
   entryCount-append = entryCount-firstEntries (n + 1) (putEntry n e es) (omega (arith, entryCount-putEntry es n e room))
+
+  -- and nothing else
+  pub wholeEntries-append : wholeEntries (appendEntry n e es) ≡ true
+  wholeEntries-append = wholeEntries-firstEntries (n + 1) (putEntry n e es) (omega (arith, entryCount-putEntry es n e room))
 
   -- ---- an entry before
 

@@ -1,4 +1,4 @@
--- Laws of the layout: an entry's numbers stand in the slice; what is read after an entry was written, and of the first entries.
+-- Laws of the layout: how many entries there are, and what is read after an entry was written and of the first entries.
 -- Assumes nothing.
 use mathlib.Core.Path.{_≡_}
 use Prim.Native.Nat.{ℕ, _+_, _*_, _%_, _≤_, _<_}
@@ -12,11 +12,6 @@ use borrow.Author.Tests.{eqb-true, eq-eqb}
 use Rattle.terms.specs.Lists.{putAt}
 use Rattle.table.specs.Layout.{entryWidth, Entry, entryNumbers, entryCount, wholeEntries, numberAt, putEntry, firstEntries}
 use Rattle.table.proofs.Written.{length-putAt, getD-putAt-before, getD-putAt, getD-putAt-after}
-
--- the numbers of an entry stand in the slice
-pub number-within : (es : List ℕ) (i j : ℕ) → i < entryCount es → j < entryWidth → i * entryWidth + j < length es
-unfolding entryCount
-number-within es i j l h = omega arith
 
 -- there are no more entries than numbers
 pub entryCount-most : (es : List ℕ) → entryCount es ≤ length es

@@ -4,11 +4,17 @@ use Prim.Native.Nat.{ℕ, _+_, _*_, _<_}
 use native.Mathlib.Omega.{arith}
 use mathlib.Core.Path.{_≡_}
 use mathlib.Core.Option.{none, some}
+use mathlib.Core.List.{List}
 use lib.ListN.{length, length-take, length-drop}
 use Rattle.table.specs.Layout.{entryWidth, entryCount, startAt, countAt}
 use Rattle.table.specs.Table.{Table, formRefusal, partsIn}
 use Rattle.table.proofs.Entries.{length-whole}
 use Rattle.table.proofs.Form.{formed, sound-whole, formed-fits}
+
+-- the numbers of an entry stand in the slice
+pub number-within : (es : List ℕ) (i j : ℕ) → i < entryCount es → j < entryWidth → i * entryWidth + j < length es
+unfolding entryCount
+number-within es i j l h = omega arith
 
 module _ (t : Table) (form : formRefusal t ≡ none) where
   -- the entry slice is its entries: nothing is left over

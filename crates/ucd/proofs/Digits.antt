@@ -4,12 +4,12 @@ use mathlib.Core.Path.{_≡_, refl}
 use Prim.Native.Nat.{ℕ, _+_, _-_, _*_, _<_}
 use native.Mathlib.Omega.{arith}
 use mathlib.Core.Bool.{Bool, true, false, cond, _&&_, and-eq-true-iff}
-use mathlib.Core.Option.{Option, none, some}
+use mathlib.Core.Option.{Option, none, some, bind}
 use mathlib.Core.List.{List, [], _∷_}
 use lib.Dec.{leb}
 use lib.ListN.{length, drop, getD}
 use borrow.Author.Tests.{leb-true, lt-leb}
-use Rattle.ucd.specs.Fields.{digit, shifted, digits, bounded}
+use Rattle.ucd.specs.Fields.{digit, digits, bounded}
 use Rattle.ucd.proofs.Walks.{drop-one}
 
 -- ---- digit
@@ -35,7 +35,7 @@ digit-small o d e = go (leb 0x30 o && leb o 0x39) (leb 0x41 o && leb o 0x46) ref
 
 -- no digits leave the value as it is
 pub digits-nil : (n : ℕ) → digits n [] ≡ some n
-unfolding digits
+unfolding digits bind
 digits-nil n = refl
 
 -- one digit more
@@ -43,22 +43,22 @@ pub digits-more : (n d : ℕ) (t : List ℕ) (i : ℕ)
     → i < length t
     → digit (getD t i 0) ≡ some d
     → digits n (drop i t) ≡ digits (n * 16 + d) (drop (i + 1) t)
-unfolding digits
+unfolding digits bind
 digits-more n d t i h e = rw (drop-one t i h) (simp e)
 
 -- an octet that is no digit
 pub digits-none : (n : ℕ) (t : List ℕ) (i : ℕ) → i < length t → digit (getD t i 0) ≡ none → digits n (drop i t) ≡ none
-unfolding digits
+unfolding digits bind
 digits-none n t i h e = rw (drop-one t i h) (simp e)
 
 -- a value above 10FFFF stays above
 pub bounded-digits-above : (os : List ℕ) (n : ℕ) → 0x10FFFF < n → bounded (digits n os) ≡ none
-unfolding digits
+unfolding digits bind
 bounded-digits-above [] n h = simp (lt-leb n 0x10FFFF h)
 bounded-digits-above (o ∷ os) n h = go (digit o) (λ v. bounded-digits-above os v)
   where
     go : (x : Option ℕ)
         → ((v : ℕ) → 0x10FFFF < v → bounded (digits v os) ≡ none)
-        → bounded (shifted n x (λ v. digits v os)) ≡ none
+        → bounded (bind x (λ d. digits (n * 16 + d) os)) ≡ none
     go none rec = refl
     go (some d) rec = rec (n * 16 + d) (omega arith)

@@ -1,4 +1,4 @@
--- What a line gives: there is something where no check of its reading applies, and it has at most 32 parts.
+-- What a line gives: at most 32 parts, and something where no check of its reading applies.
 -- Assumes nothing.
 use mathlib.Core.Path.{_≡_, refl, sym, _∙_, ap}
 use mathlib.Core.Bool.{Bool, true, false, cond, _&&_}
@@ -8,32 +8,25 @@ use Prim.Native.Nat.{ℕ, suc, _≤_}
 use native.Mathlib.Omega.{arith}
 use lib.Dec.{leb}
 use lib.ListN.{length}
-use borrow.Author.Tests.{leb-true, not-false}
+use borrow.Author.Tests.{leb-true, eqb-true, not-false}
 use Rattle.terms.specs.Lists.{empty, there}
 use Rattle.terms.specs.Refusals.{partsMost}
 use Rattle.terms.proofs.Checks.{when-none}
-use Rattle.ucd.specs.Fields.{field, cut, codePoint, andOne, codePoints, untagged, someParts, decomposition, titlecase}
-use Rattle.ucd.specs.Lines.{Properties, properties, lineProperties, readingChecks, readingRefusal}
+use Rattle.ucd.specs.Fields.{fields, field, cut, codePoint, codePoints, untagged, someParts, decomposition, titlecase}
+use Rattle.ucd.specs.Lines.{Properties, lineProperties, readingChecks, readingRefusal}
 use Rattle.ucd.proofs.Rows.{first-none}
 use Rattle.ucd.proofs.Listing.{optional-titlecase}
 
 -- ---- at most 32 parts
 
 -- as many code points as pieces
-length-andOne : (o : Option ℕ) (rest : Option (List ℕ)) (n : ℕ)
-    → ((cs : List ℕ) → rest ≡ some cs → length cs ≡ n)
-    → (cs : List ℕ) → andOne o rest ≡ some cs → length cs ≡ suc n
-length-andOne none rest n h cs e = cc
-length-andOne (some c) none n h cs e = cc
-length-andOne (some c) (some ds) n h cs e =
-    let same : c ∷ ds ≡ cs = cc in
-    sym (ap length same) ∙ ap suc (h ds refl)
-
 length-codePoints : (ps : List (List ℕ)) (cs : List ℕ) → codePoints ps ≡ some cs → length cs ≡ length ps
 unfolding codePoints
 length-codePoints [] cs e = let same : [] ≡ cs = cc in sym (ap length same)
 length-codePoints (p ∷ ps) cs e =
-    length-andOne (codePoint p) (codePoints ps) (length ps) (length-codePoints ps) cs e
+    let rest = bind-eq-some-iff (codePoint p) _ .0 e in
+    let more = map-eq-some-iff _ (codePoints ps) .0 (rest .2) in
+    sym (ap length (more .2)) ∙ ap suc (length-codePoints ps (more .0) (more .1))
 
 length-someParts : (ps : List (List ℕ)) (cs : List ℕ) → someParts ps ≡ some cs → length cs ≤ partsMost
 length-someParts ps cs = go (leb 1 (length ps)) (leb (length ps) partsMost) refl
@@ -60,8 +53,17 @@ length-parts line p e =
     let cased = map-eq-some-iff _ (titlecase (code .0) (field 14 line)) .0 (listed .2) in
     omega (arith, length-decomposition (field 5 line) (listed .0) (listed .1), ap (λ (q : Properties). length (q .parts)) (cased .2))
 
+-- ---- the fields
+
+-- a line whose reading is not refused has the fields 0 to 14: where `field` has a default, it is not reached
+pub fields-read : (line : List ℕ) → readingRefusal line ≡ none → length (fields line) ≡ 15
+unfolding readingRefusal
+fields-read line e =
+    eqb-true (length (fields line)) 15 (not-false _ (when-none _ _ (first-none (readingChecks line) e 1)))
+
 -- ---- something is given
 
+-- what is there is something
 there-some : {A : Type 0} (o : Option A) → there o ≡ true → (a : A) × (o ≡ some a)
 there-some none e = let z : _≡_ {A = ℕ} 0 1 = cc in absurd (omega arith)
 there-some (some a) e = (a, refl)
@@ -71,7 +73,7 @@ pub lineProperties-some : (line ps : List ℕ) (c t : ℕ)
     → codePoint (field 0 line) ≡ some c
     → decomposition (field 5 line) ≡ some ps
     → titlecase c (field 14 line) ≡ some t
-    → lineProperties line ≡ some (properties c t ps)
+    → lineProperties line ≡ some (record { code = c; title = t; parts = ps })
 unfolding lineProperties bind
 lineProperties-some line ps c t e f g = rw (e, f, g)
 
@@ -84,6 +86,6 @@ lineProperties-read line e =
     let listed = there-some (decomposition (field 5 line)) (not-false _ (when-none _ _ (passed 3))) in
     let cased = there-some (titlecase (code .0) (field 14 line))
     (sym (optional-titlecase (code .0) (field 14 line)) ∙ not-false _ (when-none _ _ (passed 4))) in (
-      properties (code .0) (cased .0) (listed .0),
+      record { code = code .0; title = cased .0; parts = listed .0 },
       lineProperties-some line (listed .0) (code .0) (cased .0) (code .1) (listed .1) (cased .1),
     )

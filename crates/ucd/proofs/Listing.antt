@@ -5,7 +5,7 @@ use Prim.Native.Nat.{ℕ, _+_, _≤_, _<_}
 use native.Mathlib.Numerals.{add-one}
 use native.Mathlib.Omega.{arith}
 use mathlib.Core.Bool.{Bool, true, false, cond, _&&_, _||_, and-false}
-use mathlib.Core.Option.{Option, none, some}
+use mathlib.Core.Option.{Option, none, some, Option·map, bind}
 use mathlib.Core.List.{List, [], _∷_, _++_, append-nil}
 use lib.Dec.{leb}
 use lib.ListN.{length, take, drop, set}
@@ -13,7 +13,7 @@ use lib.Seq.{append-snoc, take-suc-set}
 use borrow.Author.Tests.{le-leb, lt-leb}
 use Rattle.terms.specs.Lists.{empty, there}
 use Rattle.terms.specs.Refusals.{partsMost}
-use Rattle.ucd.specs.Fields.{cut, codePoint, andOne, codePoints, tag, untagged, someParts, decomposition, optional, titlecase}
+use Rattle.ucd.specs.Fields.{cut, codePoint, codePoints, tag, untagged, someParts, decomposition, optional, titlecase}
 use Rattle.ucd.specs.Promises.{pieceEnd}
 use Rattle.ucd.proofs.Walks.{empty-yes, empty-no}
 use Rattle.ucd.proofs.Cutting.{after, cut-step, cut-last, cut-more, cut-next}
@@ -30,19 +30,19 @@ prepend-nil : (o : Option (List ℕ)) → o ≡ prepend [] o
 prepend-nil none = refl
 prepend-nil (some cs) = refl
 
-prepend-snoc : (xs : List ℕ) (c : ℕ) (o : Option (List ℕ)) → prepend xs (andOne (some c) o) ≡ prepend (xs ++ (c ∷ [])) o
+prepend-snoc : (xs : List ℕ) (c : ℕ) (o : Option (List ℕ)) → prepend xs (Option·map (λ cs. c ∷ cs) o) ≡ prepend (xs ++ (c ∷ [])) o
 prepend-snoc xs c none = refl
 prepend-snoc xs c (some cs) = ap (λ (l : List ℕ). some l) (sym (append-snoc xs c cs))
 
 -- the code points of pieces, if the first writes one and if it writes none
 codePoints-cons : (p : List ℕ) (ps : List (List ℕ)) (c : ℕ)
     → codePoint p ≡ some c
-    → codePoints (p ∷ ps) ≡ andOne (some c) (codePoints ps)
-unfolding codePoints
+    → codePoints (p ∷ ps) ≡ Option·map (λ cs. c ∷ cs) (codePoints ps)
+unfolding codePoints bind
 codePoints-cons p ps c e = simp e
 
 codePoints-none : (p : List ℕ) (ps : List (List ℕ)) → codePoint p ≡ none → codePoints (p ∷ ps) ≡ none
-unfolding codePoints
+unfolding codePoints bind
 codePoints-none p ps e = simp e
 
 codePoints-nil : codePoints [] ≡ some []
@@ -71,7 +71,7 @@ pub record Lists (t parts : List ℕ) (at count : ℕ) : Type 0 where
 pub lists-first : (t parts : List ℕ) → Lists t parts 0 0
 lists-first t parts = record { stands = stands-first 0x20 t; listed = prepend-nil (codePoints (cut 0x20 t)) }
 
-module _ (t parts : List ℕ) (at count : ℕ) (w : Lists t parts at count) where
+module _ {t parts : List ℕ} {at count : ℕ} (w : Lists t parts at count) where
   -- the pieces are as many as were passed, and one or more
   pieces : (count + 1 ≤ length (cut 0x20 t)) × (length (cut 0x20 t) ≡ count + length (cut 0x20 (drop at t)))
   pieces =

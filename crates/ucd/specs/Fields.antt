@@ -2,7 +2,7 @@
 -- Assumes nothing.
 use Prim.Native.Nat.{ℕ, _+_, _-_, _*_}
 use mathlib.Core.Bool.{Bool, cond, _&&_, _||_, not}
-use mathlib.Core.Option.{Option, none, some}
+use mathlib.Core.Option.{Option, none, some, Option·map, bind}
 use mathlib.Core.List.{List, [], _∷_}
 use lib.Dec.{leb, eqb}
 use lib.ListN.{length, getD, take, drop}
@@ -37,15 +37,10 @@ digit o =
     cond (leb 0x30 o && leb o 0x39) (some (o - 0x30))
     (cond (leb 0x41 o && leb o 0x46) (some (o - 0x37)) none)
 
--- the value of one more digit after the value so far
-abbrev pub shifted : ℕ → Option ℕ → (ℕ → Option ℕ) → Option ℕ
-shifted n none rest = none
-shifted n (some d) rest = rest (n * 16 + d)
-
--- the value of digits after the value so far
+-- the value of digits after the value so far, if each is one
 unfoldable pub digits : ℕ → List ℕ → Option ℕ
 digits n [] = some n
-digits n (o ∷ os) = shifted n (digit o) (λ v. digits v os)
+digits n (o ∷ os) = bind (digit o) (λ d. digits (n * 16 + d) os)
 
 -- 4 to 6 octets, and more than four only if the first is not the digit 0
 abbrev pub wellSized : List ℕ → Bool
@@ -61,14 +56,9 @@ unfoldable pub codePoint : List ℕ → Option ℕ
 codePoint os = cond (wellSized os) (bounded (digits 0 os)) none
 
 -- the code points that the pieces write, if each writes one
-abbrev pub andOne : Option ℕ → Option (List ℕ) → Option (List ℕ)
-andOne none cs = none
-andOne (some c) none = none
-andOne (some c) (some cs) = some (c ∷ cs)
-
 unfoldable pub codePoints : List (List ℕ) → Option (List ℕ)
 codePoints [] = some []
-codePoints (p ∷ ps) = andOne (codePoint p) (codePoints ps)
+codePoints (p ∷ ps) = bind (codePoint p) (λ c. Option·map (λ cs. c ∷ cs) (codePoints ps))
 
 -- ---- field 5: "empty, or 1 to 32 code points with single spaces between, after an optional tag .. and one space"
 

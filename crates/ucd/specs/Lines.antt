@@ -9,6 +9,7 @@ use lib.ListN.{length}
 use Rattle.terms.specs.Lists.{there}
 use Rattle.terms.specs.Refusals.{lineMost, check, first}
 use Rattle.terms.specs.declared.Refusal.{Refusal}
+use Rattle.ucd.specs.declared.SimpleProperties.{SimpleProperties}
 use Rattle.ucd.specs.Fields.{fields, field, codePoint, decomposition, optional, titlecase}
 
 -- ---- what a line gives
@@ -19,15 +20,15 @@ pub record Properties : Type 0 where
   pub title : ℕ
   pub parts : List ℕ
 
--- the same by their values
-abbrev pub properties : ℕ → ℕ → List ℕ → Properties
-properties code title parts = record { code = code; title = title; parts = parts }
+-- simple properties with parts
+abbrev pub withParts : SimpleProperties → List ℕ → Properties
+withParts s parts = record { code = s .code; title = s .title; parts = parts }
 
 -- "Field 0 is the code point, 5 the decomposition, 14 the titlecase"; nothing where one of them is malformed
 unfoldable pub lineProperties : List ℕ → Option Properties
 lineProperties line =
     bind (codePoint (field 0 line))
-    (λ c. bind (decomposition (field 5 line)) (λ ps. Option·map (λ t. properties c t ps) (titlecase c (field 14 line))))
+    (λ c. bind (decomposition (field 5 line)) (λ ps. Option·map (λ t. record { code = c; title = t; parts = ps }) (titlecase c (field 14 line))))
 
 -- "Lines that say nothing (no parts, titlecase none or itself ..)"
 abbrev pub saysNothing : Properties → Bool

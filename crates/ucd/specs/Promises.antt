@@ -9,11 +9,12 @@ use mathlib.Core.List.{List, [], _∷_}
 use lib.Dec.{eqb}
 use lib.ListN.{take}
 use Rattle.terms.specs.Refusals.{partsMost, refusal}
-use Rattle.ucd.specs.Lines.{properties, lineProperties, readingRefusal}
+use Rattle.ucd.specs.Lines.{withParts, lineProperties, readingRefusal}
 use Rattle.ucd.specs.declared.numbers.Number.{Number}
 use Rattle.ucd.specs.declared.numbers.Number.the-variants.{Value, Malformed}
 use Rattle.ucd.specs.declared.parts.Parts.{Parts}
 use Rattle.ucd.specs.declared.parts.Parts.the-variants.{Count, Malformed as Unlisted}
+use Rattle.ucd.specs.declared.SimpleProperties.{SimpleProperties}
 use Rattle.ucd.specs.declared.Reading.{Reading}
 use Rattle.ucd.specs.declared.Reading.the-variants.{Read, Refused}
 
@@ -45,18 +46,18 @@ partsCount Unlisted = 0
 
 -- the parts were read, and written to the front of a slice
 pub record Listed (parts : Option (List ℕ)) (r : Parts) (out : List ℕ) : Type 0 where
-  pub told : partsRead r out ≡ parts
+  pub read : partsRead r out ≡ parts
   pub within : partsCount r ≤ partsMost
 
 -- ---- a line
 
 -- a line was read, with its parts at the front of a slice: none of 20 to 24 applies, and it gives these properties
-pub record Gives (line out : List ℕ) (code title count : ℕ) : Type 0 where
+pub record LineRead (line out : List ℕ) (s : SimpleProperties) (count : ℕ) : Type 0 where
   pub unrefused : readingRefusal line ≡ none
-  pub given : lineProperties line ≡ some (properties code title (take count out))
+  pub given : lineProperties line ≡ some (withParts s (take count out))
   pub within : count ≤ partsMost
 
 -- the answer of reading a line
 abbrev pub Reads : List ℕ → List ℕ → Reading → Type 0
-Reads line out (Read code title count) = Gives line out code title count
+Reads line out (Read s count) = LineRead line out s count
 Reads line out (Refused n) = readingRefusal line ≡ some (refusal n 0 0)

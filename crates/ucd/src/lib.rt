@@ -13,10 +13,16 @@ ghost use lib.ListN.{length};
 ghost use Rattle.terms.specs.Refusals.{partsMost};
 ghost use Rattle.ucd.specs.Promises.{Reads};
 
+// The properties that are single numbers: the code point and its titlecase.
+pub struct SimpleProperties {
+    pub code: u32,
+    pub title: u32,
+}
+
 // What a line gives, or the number of its refusal.
 pub enum Reading {
-    // The code point, its titlecase, and how many parts it has; the parts stand at the front of a slice.
-    Read { code: u32, title: u32, count: usize },
+    // The simple properties, and how many parts there are, which stand at the front of a slice.
+    Read(SimpleProperties, usize),
     Refused(u32),
 }
 
@@ -43,5 +49,5 @@ pub fn read_line(line: &[u8], parts: &mut [u32]) -> Reading
     let Number::Value(title) = cased else {
         return Reading::Refused(terms::REFUSED_FIELD_14);
     };
-    Reading::Read { code, title, count }
+    Reading::Read(SimpleProperties { code, title }, count)
 }

@@ -5,7 +5,7 @@ use mathlib.Core.Bool.{false}
 use lib.Dec.{ltb}
 use borrow.Author.Needs.{needs}
 use borrow.Author.Tests.{lt-ltb, le-ltb}
-use Rattle.ucd.specs.Lines.{Properties, properties}
+use Rattle.ucd.specs.Lines.{Properties, withParts}
 use Rattle.builder.specs.Builder.{Built, built, surrogate}
 use Rattle.builder.specs.Promises.{propertiesRefusal}
 use Rattle.builder.proofs.Adding.{addedBy-refused, addedBy-taken}
@@ -17,7 +17,7 @@ abbrev before : tie.Start → Built
 before s = built (s .args .state) (s .args .entries .now) (s .args .pool .now)
 
 abbrev given : tie.Start → Properties
-given s = properties (s .args .code) (s .args .title) (s .args .parts .now)
+given s = withParts (s .args .simple) (s .args .parts .now)
 
 -- where 25 doesn't apply, and where 26 doesn't either
 abbrev start-of : tie.Else1 → tie.Start
@@ -27,7 +27,7 @@ clean : (c : tie.Else1) → surrogate (given (start-of c)) ≡ false
 clean c = sym (c .before .has-surrogate .ensures) ∙ c .if1 .left
 
 abbrev was-clean : tie.Else2 → tie.Else1
-was-clean c = c .before .before
+was-clean c = c .before .before .before
 
 above : (c : tie.Else2)
     → let s = start-of (was-clean c) in
@@ -51,7 +51,10 @@ returns c =
     let called = c .before .before in
     rw (c .refused .ensures)
     (addedBy-refused (before (called .before .before .before .before))
-    (rw (sym (called .has-surrogate .ensures) ∙ c .before .if1 .taken)))
+    (rw (← (called .has-surrogate .ensures), c .before .if1 .taken)))
+
+cast-code : tie.Need-cast-code
+cast-code c = search needs
 
 refused-requires-2 : tie.Need-refused-requires-2
 refused-requires-2 c κs = search needs
@@ -60,7 +63,7 @@ refused-requires-2 c κs = search needs
 returns-2 : tie.Need-returns-2
 unfolding propertiesRefusal
 returns-2 c =
-    let d = c .before .before .before in
+    let d = c .before .before .before .before in
     rw (c .refused2 .ensures) (addedBy-refused (before (start-of d)) (rw (clean d, lt-ltb _ _ (c .before .if2 .taken))))
 
 is-crowded-requires : tie.Need-is-crowded-requires
@@ -83,12 +86,12 @@ returns-3 c =
     let d = was-above called in
     rw (c .refused3 .ensures)
     (addedBy-refused (before (start-of (was-clean d)))
-    (rw (clean (was-clean d), above d, sym (called .is-crowded .ensures) ∙ c .before .if3 .taken)))
+    (rw (clean (was-clean d), above d, ← (called .is-crowded .ensures), c .before .if3 .taken)))
 
 store-requires : tie.Need-store-requires
 store-requires c κs =
     let e = c .before .before in
-    (start-of (was-clean (was-above (e .before))) .pre .1, sym (e .before .is-crowded .ensures) ∙ e .if3 .left)
+    (start-of (was-clean (was-above (e .before))) .pre .1, rw (← (e .before .is-crowded .ensures)) (e .if3 .left))
 
 same-length-3 : tie.Need-same-length-3
 same-length-3 c = search needs
@@ -104,7 +107,7 @@ returns-4 c =
     let e = stored .before .before .before in
     let d = was-above (e .before) in
     addedBy-taken (before (start-of (was-clean d)))
-    (rw (clean (was-clean d), above d, sym (e .before .is-crowded .ensures) ∙ e .if3 .left))
+    (rw (clean (was-clean d), above d, ← (e .before .is-crowded .ensures), e .if3 .left))
     refl
     (stored .store .ensures)
 
@@ -115,6 +118,7 @@ add-given-spec =
     has-surrogate-requires
     refused-requires
     returns
+    cast-code
     refused-requires-2
     returns-2
     is-crowded-requires

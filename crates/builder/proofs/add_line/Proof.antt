@@ -1,20 +1,18 @@
 -- `builder::add_line` meets its contract: 28, then what the reading of the line gives, then what becomes of what the line gives.
 -- Assumes nothing.
 use mathlib.Core.Path.{_≡_, refl, sym, _∙_, subst}
-use mathlib.Core.Bool.{false, _||_}
+use mathlib.Core.Bool.{false}
 use mathlib.Core.List.{List}
-use Prim.Native.Nat.{ℕ, _≤_}
+use Prim.Native.Nat.{ℕ}
 use native.Mathlib.Omega.{arith}
 use borrow.Author.Needs.{needs}
 use lib.ListN.{length, take}
 use lib.Seq.{length-take-le}
-use Rattle.terms.specs.Refusals.{partsMost}
 use Rattle.terms.proofs.Checks.{or-left}
 use Rattle.table.specs.Layout.{entryCount}
-use Rattle.ucd.specs.Promises.{Gives, Reads}
+use Rattle.ucd.specs.Promises.{LineRead, Reads}
 use Rattle.builder.specs.Builder.{Built, built, impossible}
-use Rattle.builder.specs.Promises.{propertiesRefusal}
-use Rattle.builder.proofs.Refusals.{overfull-fits, lineRefusal-28, lineRefusal-possible}
+use Rattle.builder.proofs.Refusals.{overfull-fits, lineRefusal-28, lineRefusal-reading, lineRefusal-given}
 use Rattle.builder.proofs.Adding.{addedBy-refused, addedBy-line}
 use Rattle.builder.proofs.add_line.Statement.{statement}
 use Rattle.builder.proofs.add_line.Tie as tie
@@ -46,11 +44,11 @@ abbrev read : tie.After-known-told → tie.After-read-line
 read g = g .before .before .before .before
 
 abbrev count : tie.After-known-told → ℕ
-count g = g .before .reading .given .0 .1 .1 .0
+count g = g .before .reading .given .0 .1 .0
 
 given : (g : tie.After-known-told)
-    → Gives (start-of (read g) .args .line .now) (out-of (read g))
-    (g .before .reading .given .0 .0) (g .before .reading .given .0 .1 .0) (count g)
+    → LineRead (start-of (read g) .args .line .now) (out-of (read g))
+    (g .before .reading .given .0 .0) (count g)
 given g =
     subst (Reads (start-of (read g) .args .line .now) (out-of (read g)))
     (g .before .reading .given .1)
@@ -114,12 +112,11 @@ same-length-4 c = search needs
 
 -- what the line gives
 returns-2 : tie.Need-returns-2
-unfolding propertiesRefusal
 returns-2 c =
     let called = c .before .before .before .before in
     let g = called .before .before .before .before in
     addedBy-line
-    (lineRefusal-possible (before (start-of (read g))) _ (possible (read g)) ∙ rw (given g .unrefused, given g .given))
+    (lineRefusal-given (before (start-of (read g))) _ (possible (read g)) (given g .unrefused) (given g .given))
     (given g .given)
     (called .add-given .ensures)
 
@@ -138,7 +135,7 @@ returns-3 c =
     let line = start-of r .args .line .now in
     let read-refused = subst (Reads line (out-of r)) (g .before .reading2 .given .1) (r .read-line .ensures) in
     rw (c .refused2 .ensures)
-    (addedBy-line (lineRefusal-possible b line (possible r) ∙ rw read-refused) refl (addedBy-refused b refl))
+    (addedBy-line (lineRefusal-reading b line (possible r) read-refused) refl (addedBy-refused b refl))
 
 pub add-line-spec : {M : Type 1} → statement M
 add-line-spec =

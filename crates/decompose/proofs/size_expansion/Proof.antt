@@ -2,7 +2,6 @@
 -- the titlecase if that has no parts, for two asks too; and else the titlecase unfolds, since every code point of an accepted table
 -- does.
 -- Assumes nothing.
-use Prim.Native.Nat.{ℕ}
 use native.Mathlib.Omega.{arith}
 use mathlib.Core.Path.{_≡_, sym, ap, _∙_}
 use mathlib.Core.Option.{none, some}

@@ -2,7 +2,7 @@
 -- Assumes nothing.
 use mathlib.Core.Path.{_≡_, sym, _∙_, ap, subst}
 use mathlib.Core.Bool.{true, false}
-use mathlib.Core.Option.{some, bind}
+use mathlib.Core.Option.{some}
 use mathlib.Core.List.{List}
 use Prim.Native.Nat.{ℕ, _≤_}
 use lib.Dec.{ltb, eqb}
@@ -11,10 +11,11 @@ use borrow.Author.Needs.{needs}
 use borrow.Author.Tests.{lt-ltb, le-ltb, eq-eqb, ne-eqb}
 use Rattle.terms.specs.Refusals.{lineMost, partsMost}
 use Rattle.ucd.specs.Fields.{fields, field, codePoint, decomposition, titlecase}
-use Rattle.ucd.specs.Lines.{readingRefusal, lineProperties}
+use Rattle.ucd.specs.Lines.{readingRefusal}
 use Rattle.ucd.specs.Promises.{numberRead, partsRead, partsCount}
 use Rattle.ucd.specs.declared.parts.Parts.{Parts}
 use Rattle.ucd.proofs.Listing.{optional-titlecase}
+use Rattle.ucd.proofs.Lines.{lineProperties-some}
 use Rattle.ucd.proofs.read_line.Statement.{statement}
 use Rattle.ucd.proofs.read_line.Tie as tie
 
@@ -61,7 +62,7 @@ out-of c = c .read-parts .last .1 .0
 
 parts : (c : tie.After-read-parts)
     → partsRead (c .read-parts .result) (out-of c) ≡ decomposition (field 5 (line-coded (at-coded c)))
-parts c = c .read-parts .ensures .told ∙ ap decomposition (c .before .before .find-field2 .ensures)
+parts c = c .read-parts .ensures .read ∙ ap decomposition (c .before .before .find-field2 .ensures)
 
 abbrev at-parts : tie.After-known-told2 → tie.After-read-parts
 at-parts c = c .before .before .before .before .before
@@ -196,7 +197,7 @@ same-length-3 c = search needs
 
 -- all are well formed
 returns-6 : tie.Need-returns-6
-unfolding readingRefusal lineProperties bind
+unfolding readingRefusal
 returns-6 c =
     let r = c .before .before .before in
     let d = at-listed r in
@@ -206,7 +207,7 @@ returns-6 c =
     sym (title r) ∙ ap numberRead (c .before .cased .given .1) in
     record {
       unrefused = rw (short (at-length at), whole at, code, listed d, optional-titlecase (code-of d) (field 14 (line-listed d)), cased);
-      given = rw (code, listed d, cased);
+      given = lineProperties-some _ _ _ _ code (listed d) cased;
       within = few d;
     }
 

@@ -1,46 +1,72 @@
--- `builder::checks::has_surrogate` meets its contract: at each return the tests that led there decide those of `surrogate`.
+-- `builder::checks::has_surrogate` meets its contract: at each return the tests that led there decide those of `surrogate`. The
+-- loop's invariant: all parts are scalar if what is left are. The measure is what is left.
 -- Assumes nothing.
-use mathlib.Core.Path.{_≡_, sym, _∙_, ap}
-use mathlib.Core.Bool.{true, false, not, and-false}
+use mathlib.Core.Path.{_≡_, refl, sym, _∙_, ap}
+use mathlib.Core.Bool.{false, not, and-false}
+use Prim.Native.Nat.{_≤_, _-_}
+use native.Mathlib.Omega.{arith}
 use borrow.Author.Needs.{needs}
 use borrow.Author.Tests.{not-true, not-false}
+use lib.ListN.{length, drop}
 use Rattle.terms.specs.CodePoints.{scalar}
-use Rattle.ucd.specs.Lines.{properties, saysNothing}
+use Rattle.terms.specs.Lists.{all}
+use Rattle.ucd.specs.Lines.{Properties, withParts, saysNothing}
+use Rattle.ucd.proofs.Walks.{all-more, all-fails, all-end}
+use Rattle.builder.specs.Builder.{surrogate}
 use Rattle.builder.proofs.checks.has_surrogate.Statement.{statement}
 use Rattle.builder.proofs.checks.has_surrogate.Tie as tie
 
--- where the line has a mapping, where its code point is scalar, and where its titlecase is too
-maps : (c : tie.Else1)
-    → let a = c .before .before .before .args in
-    saysNothing (properties (a .code) (a .title) (a .parts .now)) ≡ false
+abbrev Inv-loop : tie.InvT-loop
+Inv-loop parts i₀ i = (i ≤ length parts) × (all scalar parts ≡ all scalar (drop i parts))
+
+abbrev μ-loop : tie.MeasureT-loop
+μ-loop parts i₀ i = length parts - i
+
+-- at the entry: what the line gives
+abbrev given : tie.Start Inv-loop μ-loop → Properties
+given s = withParts (s .args .simple) (s .args .parts .now)
+
+-- where the line has a mapping
+abbrev start-of : tie.Else1 Inv-loop μ-loop → tie.Start Inv-loop μ-loop
+start-of c = c .before .before .before
+
+maps : (c : tie.Else1 Inv-loop μ-loop) → saysNothing (given (start-of c)) ≡ false
 maps c = sym (c .before .says-nothing .ensures) ∙ c .if1 .left
 
-code : (c : tie.Else2) → scalar (c .before .before .before .before .before .args .code) ≡ true
-code c = sym (c .before .is-scalar .ensures) ∙ not-false _ (c .if2 .left)
+-- where its code point and its titlecase are scalar: the parts decide
+abbrev mapped : tie.Else3 Inv-loop μ-loop → tie.Else1 Inv-loop μ-loop
+mapped c = c .before .before .before .before
 
-title : (c : tie.Else3) → scalar (c .before .before .before .before .before .before .before .args .title) ≡ true
-title c = sym (c .before .is-scalar2 .ensures) ∙ not-false _ (c .if3 .left)
+decide : (c : tie.Else3 Inv-loop μ-loop)
+    → let p = given (start-of (mapped c)) in
+    surrogate p ≡ not (all scalar (p .parts))
+decide c =
+    let code = c .before .before in
+    simp (
+      maps (mapped c),
+      sym (code .before .is-scalar .ensures) ∙ not-false _ (code .if2 .left),
+      sym (c .before .is-scalar2 .ensures) ∙ not-false _ (c .if3 .left),
+    )
 
-says-nothing-requires : tie.Need-says-nothing-requires
+says-nothing-requires : tie.Need-says-nothing-requires Inv-loop μ-loop
 says-nothing-requires c κs = search needs
 
 -- a line that says nothing
-returns : tie.Need-returns
+returns : tie.Need-returns Inv-loop μ-loop
 returns c = rw (← (c .before .says-nothing .ensures), c .if1 .taken)
 
-is-scalar-requires : tie.Need-is-scalar-requires
+is-scalar-requires : tie.Need-is-scalar-requires Inv-loop μ-loop
 is-scalar-requires c κs = search needs
 
 -- the code point
-returns-2 : tie.Need-returns-2
-returns-2 c =
-    simp (maps (c .before .before), sym (c .before .is-scalar .ensures) ∙ not-true _ (c .if2 .taken))
+returns-2 : tie.Need-returns-2 Inv-loop μ-loop
+returns-2 c = simp (maps (c .before .before), sym (c .before .is-scalar .ensures) ∙ not-true _ (c .if2 .taken))
 
-is-scalar-requires-2 : tie.Need-is-scalar-requires-2
+is-scalar-requires-2 : tie.Need-is-scalar-requires-2 Inv-loop μ-loop
 is-scalar-requires-2 c κs = search needs
 
 -- the titlecase
-returns-3 : tie.Need-returns-3
+returns-3 : tie.Need-returns-3 Inv-loop μ-loop
 returns-3 c =
     simp (
       maps (c .before .before .before .before),
@@ -48,24 +74,63 @@ returns-3 c =
       and-false,
     )
 
-is-scalar-only-requires : tie.Need-is-scalar-only-requires
-is-scalar-only-requires c κs = search needs
+loop-holds : tie.Need-loop-holds Inv-loop μ-loop
+loop-holds c = (search needs, refl)
 
--- the parts
-returns-4 : tie.Need-returns-4
+mul-is-scalar : tie.Need-mul-is-scalar Inv-loop μ-loop
+mul-is-scalar c = search needs
+
+shared-slice-read-is-scalar : tie.Need-shared-slice-read-is-scalar Inv-loop μ-loop
+shared-slice-read-is-scalar c = omega arith
+
+is-scalar-requires-3 : tie.Need-is-scalar-requires-3 Inv-loop μ-loop
+is-scalar-requires-3 c κs = search needs
+
+-- a part
+returns-4 : tie.Need-returns-4 Inv-loop μ-loop
 returns-4 c =
-    let t = c .before in
-    simp (maps (t .before .before .before .before), code (t .before .before), title t) (ap not (c .is-scalar-only .ensures))
+    let inside = c .before .before .before in
+    let here = sym (c .before .is-scalar3 .ensures) ∙ not-true _ (c .if4 .taken) in
+    let l = inside .before in
+    sym (decide (l .before) ∙ ap not (l .loop .inv .1 ∙ all-fails scalar _ _ (inside .loop-test .taken) here))
+
+add-i : tie.Need-add-i Inv-loop μ-loop
+add-i c = omega arith
+
+loop-less : tie.Need-loop-less Inv-loop μ-loop
+loop-less c = omega arith
+
+-- not this part
+loop-again : tie.Need-loop-again Inv-loop μ-loop
+loop-again c =
+    let inside = c .before .before .before in
+    let here = sym (c .before .is-scalar3 .ensures) ∙ not-false _ (c .if4 .left) in
+    (omega arith, inside .before .loop .inv .1 ∙ all-more scalar _ _ (inside .loop-test .taken) here)
+
+-- no part
+returns-5 : tie.Need-returns-5 Inv-loop μ-loop
+returns-5 c =
+    let l = c .before in
+    sym (decide (l .before) ∙ ap not (l .loop .inv .1 ∙ all-end scalar _ _ (c .loop-test .left)))
 
 pub has-surrogate-spec : {M : Type 1} → statement M
 has-surrogate-spec =
     tie.close
     (tie.spec
+    Inv-loop
+    μ-loop
     says-nothing-requires
     returns
     is-scalar-requires
     returns-2
     is-scalar-requires-2
     returns-3
-    is-scalar-only-requires
-    returns-4)
+    loop-holds
+    mul-is-scalar
+    shared-slice-read-is-scalar
+    is-scalar-requires-3
+    returns-4
+    add-i
+    loop-less
+    loop-again
+    returns-5)

@@ -1,6 +1,5 @@
 -- `builder::checks::is_crowded` meets its contract: a line that says nothing needs no room, and else the sums decide.
 -- Assumes nothing.
-use native.Mathlib.Omega.{arith}
 use borrow.Author.Needs.{needs}
 use Rattle.builder.proofs.checks.is_crowded.Statement.{statement}
 use Rattle.builder.proofs.checks.is_crowded.Tie as tie

@@ -4,7 +4,7 @@ use mathlib.Core.Path.{_≡_, sym, _∙_, ap₂}
 use mathlib.Core.Bool.{false}
 use native.Mathlib.Omega.{arith}
 use borrow.Author.Needs.{needs}
-use Rattle.ucd.specs.Lines.{Properties, properties, saysNothing}
+use Rattle.ucd.specs.Lines.{Properties, withParts, saysNothing}
 use Rattle.builder.specs.Builder.{Built, built}
 use Rattle.builder.specs.Promises.{NextFits}
 use Rattle.builder.proofs.Refusals.{overfull-fits}
@@ -16,11 +16,11 @@ abbrev before : tie.Start → Built
 before s = built (s .args .state) (s .args .entries .now) (s .args .pool .now)
 
 abbrev given : tie.Start → Properties
-given s = properties (s .args .code) (s .args .title) (s .args .parts .now)
+given s = withParts (s .args .simple) (s .args .parts .now)
 
 -- where the line has a mapping: the entry and its parts fit
 abbrev start-of : tie.Else1 → tie.Start
-start-of c = c .before .before .before .before .before
+start-of c = c .before .before .before .before .before .before
 
 maps : (c : tie.Else1) → saysNothing (given (start-of c)) ≡ false
 maps c = sym (c .before .says-nothing .ensures) ∙ c .if1 .left
@@ -31,6 +31,9 @@ fits c = overfull-fits _ _ _ _ (rw (maps c) at (start-of c .pre .1))
 -- where both are stored
 abbrev stored : tie.After-slice-known4 → tie.Else1
 stored c = c .before .before .before .before .before .before .before .before
+
+cast-next : tie.Need-cast-next
+cast-next c = search needs
 
 add-next : tie.Need-add-next
 add-next c = search needs
@@ -54,11 +57,11 @@ put-entry-requires c κs = omega (arith, fits (c .before))
 put-at-requires : tie.Need-put-at-requires
 put-at-requires c κs = omega (arith, fits (c .before .before .before .before .before))
 
-add-t10 : tie.Need-add-t10
-add-t10 c = omega (arith, fits (stored c))
+add-t9 : tie.Need-add-t9
+add-t9 c = omega (arith, fits (stored c))
 
-add-t20 : tie.Need-add-t20
-add-t20 c = omega (arith, fits (stored c))
+add-t19 : tie.Need-add-t19
+add-t19 c = omega (arith, fits (stored c))
 
 same-length : tie.Need-same-length
 same-length c = search needs
@@ -77,6 +80,7 @@ pub store-spec : {M : Type 1} → statement M
 store-spec =
     tie.close
     (tie.spec
+    cast-next
     add-next
     says-nothing-requires
     returns
@@ -84,8 +88,8 @@ store-spec =
     cast-put-entry-2
     put-entry-requires
     put-at-requires
-    add-t10
-    add-t20
+    add-t9
+    add-t19
     same-length
     same-length-2
     returns-2)

@@ -5,7 +5,7 @@ use Prim.Native.Nat.{_*_}
 use native.Mathlib.Omega.{arith}
 use lib.Seq.{length-take-le}
 use borrow.Author.Needs.{needs}
-use Rattle.table.specs.Layout.{entryCount, firstEntries}
+use Rattle.table.specs.Layout.{entryWidth, entryCount, firstEntries}
 use Rattle.table.proofs.layout.first_entries.Statement.{statement}
 use Rattle.table.proofs.layout.first_entries.Tie as tie
 
@@ -17,7 +17,7 @@ slice-aggregate-result : tie.Need-slice-aggregate-result
 unfolding entryCount
 slice-aggregate-result c =
     let a = c .before .args in
-    sym (length-take-le (a .n * 4) (a .entries .now) (omega arith))
+    sym (length-take-le (a .n * entryWidth) (a .entries .now) (omega arith))
 
 returns : tie.Need-returns
 unfolding firstEntries

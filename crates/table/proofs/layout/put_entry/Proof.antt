@@ -7,7 +7,7 @@ use mathlib.Core.List.{List, [], _∷_}
 use lib.ListN.{length, set, length-set}
 use borrow.Author.Needs.{needs}
 use Rattle.terms.specs.Lists.{putAt}
-use Rattle.table.specs.Layout.{entry, entryCount, putEntry}
+use Rattle.table.specs.Layout.{entryWidth, entry, entryCount, putEntry}
 use Rattle.table.proofs.Entries.{entry-fits}
 use Rattle.table.proofs.Written.{sets-putAt}
 use Rattle.table.proofs.layout.put_entry.Statement.{statement}
@@ -78,7 +78,7 @@ returns : tie.Need-returns
 unfolding putEntry
 returns c =
     let a = c .args in
-    stores (a .entries .now) (a .i * 4) (a .code) (a .title) (a .start) (a .count)
+    stores (a .entries .now) (a .i * entryWidth) (a .code) (a .title) (a .start) (a .count)
     (entry-fits (a .entries .now) (a .i) (entry (a .code) (a .title) (a .start) (a .count)) (c .pre))
 
 pub put-entry-spec : {M : Type 1} → statement M

@@ -5,9 +5,8 @@ use mathlib.Core.Path.{_≡_, refl, sym, _∙_}
 use Prim.Native.Nat.{_≤_, _-_}
 use native.Mathlib.Omega.{arith}
 use borrow.Author.Needs.{needs}
-use mathlib.Core.Bool.{true, false}
 use borrow.Author.Tests.{not-true, not-false}
-use lib.ListN.{length, drop, getD}
+use lib.ListN.{length, drop}
 use Rattle.terms.specs.Lists.{all}
 use Rattle.ucd.specs.Fields.{letter}
 use Rattle.ucd.proofs.Walks.{all-more, all-fails, all-end}
@@ -32,12 +31,9 @@ is-letter-requires c κs = search needs
 -- no letter
 returns : tie.Need-returns Inv-loop μ-loop
 returns c =
-    let called = c .before in
-    let l = called .before .before .before in
-    let t = l .before .before .args .t .now in
-    let e : letter (getD t (l .loop .i) 0) ≡ false =
-    sym (called .is-letter .ensures) ∙ not-true (called .is-letter .result) (c .if1 .taken) in
-    sym (l .loop .inv .1 ∙ all-fails letter t (l .loop .i) (called .before .before .loop-test .taken) e)
+    let inside = c .before .before .before in
+    let here = sym (c .before .is-letter .ensures) ∙ not-true _ (c .if1 .taken) in
+    sym (inside .before .loop .inv .1 ∙ all-fails letter _ _ (inside .loop-test .taken) here)
 
 add-i : tie.Need-add-i Inv-loop μ-loop
 add-i c = omega arith
@@ -48,18 +44,13 @@ loop-less c = omega arith
 -- a letter
 loop-again : tie.Need-loop-again Inv-loop μ-loop
 loop-again c =
-    let called = c .before in
-    let l = called .before .before .before in
-    let t = l .before .before .args .t .now in
-    let e : letter (getD t (l .loop .i) 0) ≡ true =
-    sym (called .is-letter .ensures) ∙ not-false (called .is-letter .result) (c .if1 .left) in
-    (omega arith, l .loop .inv .1 ∙ all-more letter t (l .loop .i) (called .before .before .loop-test .taken) e)
+    let inside = c .before .before .before in
+    let here = sym (c .before .is-letter .ensures) ∙ not-false _ (c .if1 .left) in
+    (omega arith, inside .before .loop .inv .1 ∙ all-more letter _ _ (inside .loop-test .taken) here)
 
 -- the end
 returns-2 : tie.Need-returns-2 Inv-loop μ-loop
-returns-2 c =
-    let l = c .before in
-    sym (l .loop .inv .1 ∙ all-end letter (l .before .before .args .t .now) (l .loop .i) (c .loop-test .left))
+returns-2 c = sym (c .before .loop .inv .1 ∙ all-end letter _ _ (c .loop-test .left))
 
 pub has-letters-only-spec : {M : Type 1} → statement M
 has-letters-only-spec =

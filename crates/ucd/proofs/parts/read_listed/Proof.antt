@@ -101,7 +101,7 @@ returns c =
     let r = c .before .before in
     let l = head r .loop in
     let e : codePoint (pieceAt (text-of (head r)) (l .at)) ≡ none = sym (piece r) ∙ ap numberRead (c .enum-told .given .1) in
-    record { told = sym (lists-none (text-of (head r)) (l .parts) (l .at) (l .count) (l .inv .2) e); within = search needs }
+    record { read = sym (lists-none (l .inv .2) e); within = search needs }
 
 mul-parts : tie.Need-mul-parts Inv-loop μ-loop
 mul-parts c = omega (arith, room c)
@@ -125,18 +125,7 @@ returns-2 c =
     let end : l .at + pieceEnd 0x20 (drop (l .at) (text-of (head (was-read d)))) ≡ length (text-of (head (was-read d))) =
     sym (was-read d .before .before .piece-end .ensures) ∙ c .if1 .taken in
     record {
-      told =
-          lists-last
-          (text-of (head (was-read d)))
-          (l .parts)
-          (l .at)
-          (l .count)
-          (l .inv .2)
-          (code d)
-          (room d .1)
-          (written d)
-          (room d .0)
-          end;
+      read = lists-last (l .inv .2) (code d) (room d .1) (written d) (room d .0) end;
       within = omega (arith, room d);
     }
 
@@ -155,18 +144,7 @@ loop-again c =
     let l = head (was-read d) .loop in (
       length-set (l .parts) (l .count) (code d) ∙ l .inv .0,
       omega (arith, room d),
-      rw
-          (was-read d .before .before .piece-end .ensures)
-          (lists-more
-          (text-of (head (was-read d)))
-          (l .parts)
-          (l .at)
-          (l .count)
-          (l .inv .2)
-          (code d)
-          (room d .1)
-          (written d)
-          (inside c)),
+      rw (was-read d .before .before .piece-end .ensures) (lists-more (l .inv .2) (code d) (room d .1) (written d) (inside c)),
     )
 
 same-length-3 : tie.Need-same-length-3 Inv-loop μ-loop
@@ -175,11 +153,7 @@ same-length-3 c = c .before .loop .inv .0
 -- more parts than may be
 returns-3 : tie.Need-returns-3 Inv-loop μ-loop
 returns-3 c =
-    let l = c .before in
-    record {
-      told = sym (lists-many (text-of l) (l .loop .parts) (l .loop .at) (l .loop .count) (l .loop .inv .2) (c .loop-test .left));
-      within = search needs;
-    }
+    record { read = sym (lists-many (c .before .loop .inv .2) (c .loop-test .left)); within = search needs }
 
 pub read-listed-spec : {M : Type 1} → statement M
 read-listed-spec =

@@ -40,7 +40,7 @@ more c = omega (arith, c .if3 .left, within (c .before .before .before .before))
 -- an empty field
 returns : tie.Need-returns
 returns c =
-    record { told = decomposition-empty (c .before .before .before .args .t .now) (c .if1 .taken); within = search needs }
+    record { read = decomposition-empty (c .before .before .before .args .t .now) (c .if1 .taken); within = search needs }
 
 piece-end-requires : tie.Need-piece-end-requires
 piece-end-requires c κs = search needs
@@ -57,7 +57,7 @@ returns-2 c =
     let q = c .before .before in
     let p = tested q in
     record {
-      told =
+      read =
           decomposition-alone
           (text-of p)
           (p .before .if1 .left)

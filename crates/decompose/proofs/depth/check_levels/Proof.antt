@@ -1,4 +1,4 @@
--- `decompose::check_levels` meets its contract. The loop's invariant: `i` is at most the number of entries, and the code point of
+-- `decompose::depth::check_levels` meets its contract. The loop's invariant: `i` is at most the number of entries, and the code point of
 -- no entry below it has too many levels or code points; one with no parts never does. The measure is the number of entries that
 -- are left. Assumes nothing.
 use Prim.Native.Nat.{ℕ, _≤_, _<_, _-_}
@@ -22,8 +22,8 @@ use Rattle.decompose.specs.Levels.{full}
 use Rattle.decompose.specs.TableCheck.{unfolds, faultyLevel}
 use Rattle.decompose.specs.Promises.{measured, measuredSize}
 use Rattle.decompose.proofs.Walk.{parts-none, unfolds-whole, parts-some}
-use Rattle.decompose.proofs.check_levels.Statement.{statement}
-use Rattle.decompose.proofs.check_levels.Tie as tie
+use Rattle.decompose.proofs.depth.check_levels.Statement.{statement}
+use Rattle.decompose.proofs.depth.check_levels.Tie as tie
 
 abbrev Inv-loop : tie.InvT-loop
 Inv-loop entries pool count i₀ i = (i ≤ entryCount entries) × ((k : ℕ) → k < i → faultyLevel (table entries pool) k ≡ false)

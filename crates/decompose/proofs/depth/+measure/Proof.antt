@@ -1,4 +1,4 @@
--- `decompose::measure` meets its contract. It calls itself for each part that decomposes, one level down; the measure of the
+-- `decompose::depth::measure` meets its contract. It calls itself for each part that decomposes, one level down; the measure of the
 -- recursion is the levels left. The loop's invariant: the parts so far are within the levels left to them and come to `total` code
 -- points, for which there is room (`Measuring`). The loop's measure is the number of parts that are left. Assumes nothing.
 use Prim.Native.Nat.{ℕ, _+_, _-_, _≤_, _<_}
@@ -18,12 +18,12 @@ use Rattle.decompose.proofs.Walk.{parts-none, measured-whole, parts-som
 use Rattle.decompose.proofs.Measuring.{measuredParts, measured-parts, measured-none, Measuring, measuring-start, measuring-more, measuring-done, measuring-stop}
 use borrow.Fn.Kinds.{In, Out}
 use borrow.Fn.PlainCycle.{Measures, is, falls, and}
-use Rattle.decompose.proofs.measure.Reads as reads
-use Rattle.decompose.proofs.measure.Kinds as kinds
-use Rattle.decompose.proofs.+measure.Lts-measure as lts
+use Rattle.decompose.proofs.depth.measure.Reads as reads
+use Rattle.decompose.proofs.depth.measure.Kinds as kinds
+use Rattle.decompose.proofs.depth.+measure.Lts-measure as lts
 use Rattle.table.proofs.parts_of.Reads as parts-of-reads
-use Rattle.decompose.proofs.+measure.{statement}
-use Rattle.decompose.proofs.+measure.Tie.{close}
+use Rattle.decompose.proofs.depth.+measure.{statement}
+use Rattle.decompose.proofs.depth.+measure.Tie.{close}
 
 -- the recursion's measure: the levels left
 abbrev μ-measure : Measures 3 kinds.ps ℕ
