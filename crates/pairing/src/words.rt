@@ -8,7 +8,6 @@ ghost use lib.ListN.{length};
 ghost use Rattle.octets.specs.Put.{Puts};
 ghost use Rattle.pairing.specs.Words.{wordsMost, decimal, numbered, answerLine, headingLine, countLine, tableLine};
 
-
 // Room for any of these lines, in octets.
 pub const WORDS_MOST: usize = 35;
 

@@ -1,9 +1,9 @@
 // The table from the lines of a file.
-use builder::Line;
-use builder::LineState;
 use crate::reader;
 use crate::reader::Next;
 use crate::reader::Reader;
+use builder::Line;
+use builder::LineState;
 ghost use Prim.Native.Nat.{ℕ};
 ghost use lib.ListN.{length};
 ghost use Rattle.builder.specs.Builder.{built};

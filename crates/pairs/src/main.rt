@@ -8,8 +8,8 @@ mod growing;
 mod output;
 mod reader;
 
-use builder::LineState;
 use crate::growing::Grown;
+use builder::LineState;
 use libc::STDIN_FILENO;
 use terms::Check;
 ghost use Rattle.builder.specs.Builder.{built};

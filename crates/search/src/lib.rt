@@ -4,8 +4,8 @@
 mod covering;
 
 use covering::cover;
-use occurrence::Occurrence;
 use keys::Summary;
+use occurrence::Occurrence;
 use prepare::CallCheck;
 use prepare::PreparedPair;
 use terms::Collation;

@@ -44,8 +44,7 @@ write-unicode-requires c κs =
     let test = c .before in
     let s = start (test .before) in
     let e = test .before .enum-told3 .given .1 in
-    let is = prepared-unicode _ e (mappingOf (table (s .args .entries .now) (s .args .pool .now))) (s .args .text .now) in
-    (
+    let is = prepared-unicode _ e (mappingOf (table (s .args .entries .now) (s .args .pool .now))) (s .args .text .now) in (
       s .pre .0,
       (
         tableUnder-unicode _ e (table (s .args .entries .now) (s .args .pool .now)) (s .pre .1 .0),

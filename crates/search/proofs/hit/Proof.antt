@@ -47,7 +47,7 @@ returns c =
     let covered = c .before .before in
     let r = covered .before .before in
     let s = start r in
-    hit-run (span (s .args .start .0) (s .args .end .0)) 
+    hit-run (span (s .args .start .0) (s .args .end .0))
     (textRun-reads (s .args .collation) (mapping s) (s .args .second .now) _ _ (reads r) (covered .cover .ensures))
 
 -- the text is not valid
@@ -61,7 +61,7 @@ returns-2 c =
 returns-3 : tie.Need-returns-3
 returns-3 c =
     let s = c .before .before .before .before .before in
-    hit-run (span (s .args .start .0) (s .args .end .0)) 
+    hit-run (span (s .args .start .0) (s .args .end .0))
     (textRun-other (s .args .collation) (mapping s) (s .args .second .now) _ (sym (c .before .reads-table .ensures) ∙ c .if1 .left))
 
 pub hit-spec : {M : Type 1} → statement M

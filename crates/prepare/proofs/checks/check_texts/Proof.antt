@@ -26,7 +26,6 @@ texts-refused e f = record { refusal = ap callCheckRefusal e ∙ sym f; known = 
 named : (c : tie.After-named) → collationOf (c .before .before .before .args .collation) ≡ some (c .named .given .0 .0)
 named c = sym (c .before .before .collation-of .ensures) ∙ ap collationNamed (c .named .given .1)
 
-
 collation-of-requires : tie.Need-collation-of-requires
 collation-of-requires c κs = search needs
 
