@@ -52,14 +52,14 @@ extern "C" {
 #define MZ_LINE_MOST 512          /* octets of a line of UnicodeData.txt */
 #define MZ_KEY_PER_OCTET_MOST 128 /* octets of a key for each octet of its text */
 
-/* Refusals of a call on texts, in their order; 3 to 7 are those of mz_check_table. The place is which text for 2 and 8, else 0. The detail is
- * for 2 the text's length; for 4, 5 and 7 the lowest such entry, counted from 0 (for 5 the number of entries, if it is the pool that is
- * too long); for 6 the lowest such index; for 8 the length needed; else 0. */
+/* Refusals of a call on texts, in their order; 3 to 7 are those of mz_check_table. The place is which text for 2 and 8, else 0. The
+ * detail is for 2 the text's length; for 4, 5 and 7 the lowest such entry, counted from 0 (for 5 the number of entries, if no entry is
+ * at fault and the pool is too long); for 6 the lowest such index; for 8 the length needed; else 0. */
 #define MZ_REFUSED_COLLATION 1   /* the number is no collation's */
 #define MZ_REFUSED_TEXT_LENGTH 2 /* a text is over MZ_TEXT_MOST */
 #define MZ_REFUSED_TABLE_SIZE 3  /* entries not whole or over MZ_ENTRIES_MOST, or a pool over MZ_POOL_MOST */
 #define MZ_REFUSED_CODE_POINT 4  /* a code point or titlecase is no Unicode scalar value, or code points do not ascend */
-#define MZ_REFUSED_ENTRY 5       /* a count over 32, a wrong start, parts past the pool's end, an entry that says nothing, a pool too long */
+#define MZ_REFUSED_ENTRY 5       /* a count over 32, a wrong start, parts past the pool, an entry that says nothing, a pool too long */
 #define MZ_REFUSED_POOL_NUMBER 6 /* a pool number is no Unicode scalar value */
 #define MZ_REFUSED_LEVEL 7       /* a code point does not unfold within 8 levels into at most 32 code points */
 #define MZ_REFUSED_KEY_ROOM 8    /* a key that belongs in a buffer is longer than it */
@@ -130,9 +130,9 @@ void mz_substring(uint32_t collation,
                   uint64_t answer[8]);
 
 /* Adds one line of UnicodeData.txt, without its line end, to a table that is being built. The state is three numbers, all 0 at
- * first: entries used, pool numbers used, and one more than the last code point. The table so far is the first MZ_ENTRY_WIDTH * entries_used
- * numbers of entries and the first pool_used numbers of pool. A line with a mapping appends one entry and its parts; any other
- * line only moves the third number.
+ * first: entries used, pool numbers used, and one more than the last code point. The table so far is the first
+ * MZ_ENTRY_WIDTH * entries_used numbers of entries and the first pool_used numbers of pool. A line with a mapping appends one entry
+ * and its parts; any other line only moves the third number.
  * answer: number, place (0), detail (0); the state afterwards: entries used, pool used, next. ON A REFUSAL THE LAST THREE ARE THE STATE
  * THAT CAME IN, not 0. Refusals 28, then 20 to 27. A built table passes checks 3 to 6; mz_check_table decides 7. */
 void mz_add_line(uint64_t entries_used, uint64_t pool_used, uint64_t next,
