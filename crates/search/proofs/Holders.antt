@@ -15,7 +15,7 @@ use Rattle.utf8.specs.Characters.{Character, Decoder, Decodes, prepend, charact
 use Rattle.utf8.proofs.Decoders.{characters-drop, there-drop, characters-end}
 use Rattle.decompose.specs.Steps.{expanded, stepsKey}
 use Rattle.search.specs.Covering.{span, holder}
-use Rattle.search.specs.Promises.{listed, offsetOf, Ahead, holding, Held}
+use Rattle.search.specs.Promises.{listed, offsetOf, HasOctet, holding, HolderFound}
 
 -- ---- one character
 
@@ -61,14 +61,14 @@ listed-prepend ch (some chs) e = refl
 
 -- octet k from one place on is octet `left` from a later one on, where characters are that have more octets
 pub record Walking (decode : Decoder) (m : Mapping) (t : List ℕ) (from k at left : ℕ) : Type 0 where
-  pub ahead : Ahead m (charactersBy decode (drop at t)) left
+  pub has-octet : HasOctet m (charactersBy decode (drop at t)) left
   pub place : holder m at left (charactersFrom decode t at) ≡ holder m from k (charactersFrom decode t from)
   pub offset : offsetOf m left (charactersFrom decode t at) ≡ offsetOf m k (charactersFrom decode t from)
 
 -- before the first character
-pub walking-start : (decode : Decoder) (m : Mapping) (t : List ℕ) (from k : ℕ) → Ahead m (charactersBy decode (drop from t)) k
+pub walking-start : (decode : Decoder) (m : Mapping) (t : List ℕ) (from k : ℕ) → HasOctet m (charactersBy decode (drop from t)) k
     → Walking decode m t from k from k
-walking-start decode m t from k h = record { ahead = h; place = refl; offset = refl }
+walking-start decode m t from k h = record { has-octet = h; place = refl; offset = refl }
 
 module _ {decode : Decoder} (d : Decodes decode) {m : Mapping} {t : List ℕ} {from k at left : ℕ}
     (w : Walking decode m t from k at left) where
@@ -78,7 +78,7 @@ module _ {decode : Decoder} (d : Decodes decode) {m : Mapping} {t : List ℕ} {f
 
     -- the characters after this one are there, and they and it are those from here on
     valid : there (charactersBy decode (drop (at + ch .width) t)) ≡ true
-    valid = sym (there-drop d t at ch e) ∙ w .ahead .valid
+    valid = sym (there-drop d t at ch e) ∙ w .has-octet .valid
 
     split : charactersFrom decode t at ≡ ch ∷ rest
     split = ap listed (characters-drop d t at ch e) ∙ listed-prepend ch (charactersBy decode (drop (at + ch .width) t)) valid
@@ -89,14 +89,14 @@ module _ {decode : Decoder} (d : Decodes decode) {m : Mapping} {t : List ℕ} {f
         let later : size m ch ≤ left = omega (arith, is) in
         let key = ap (λ (l : List Character). length (stepsKey m l)) split in
         record {
-          ahead = record { valid = valid; below = omega (arith, is, w .ahead .below, key, length-key m ch rest) };
+          has-octet = record { valid = valid; below = omega (arith, is, w .has-octet .below, key, length-key m ch rest) };
           place = rw is (sym (holder-later m ch rest at left later)) ∙ ap (holder m at left) (sym split) ∙ w .place;
           offset = rw is (sym (offset-later m ch rest left later)) ∙ ap (offsetOf m left) (sym split) ∙ w .offset;
         }
 
     -- the octet is this character's
     pub walking-found : left < size m ch
-        → Held m (charactersBy decode (drop from t)) from k (holding at (at + ch .width) left)
+        → HolderFound m (charactersBy decode (drop from t)) from k (holding at (at + ch .width) left)
     walking-found h = record {
       place = sym (holder-here m ch rest at left h) ∙ ap (holder m at left) (sym split) ∙ w .place;
       offset = sym (offset-here m ch rest left h) ∙ ap (offsetOf m left) (sym split) ∙ w .offset;
@@ -107,4 +107,4 @@ module _ {decode : Decoder} (d : Decodes decode) {m : Mapping} {t : List ℕ} {f
   unfolding stepsKey each
   walking-done h =
       let none-left = ap (λ (o : Option (List Character)). length (stepsKey m (listed o))) (characters-end d t at h) in
-      omega (arith, w .ahead .below, none-left)
+      omega (arith, w .has-octet .below, none-left)

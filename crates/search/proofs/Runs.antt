@@ -18,7 +18,7 @@ use Rattle.utf8.proofs.Decoders.{characters-cons}
 use Rattle.decompose.specs.Steps.{stepsKey}
 use Rattle.search.specs.Covering.{Span, span, holder, fromTo, covering}
 use Rattle.search.specs.Substring.{runIn}
-use Rattle.search.specs.Promises.{listed, offsetOf, Ahead, Held, Within}
+use Rattle.search.specs.Promises.{listed, offsetOf, HasOctet, HolderFound, Within}
 use Rattle.search.specs.declared.covering.Holder.{Holder}
 use Rattle.search.proofs.Holders.{size, length-key, holder-here, holder-later, offset-here, offset-later}
 
@@ -107,8 +107,8 @@ listed-there (some chs) e = refl
 
 module _ {decode : Decoder} (d : Decodes decode) {m : Mapping} (t : List ℕ) {s e : ℕ} (w : Within m (charactersBy decode t) s e) where
   -- the first octet is within the key
-  pub first-ahead : Ahead m (charactersBy decode t) s
-  first-ahead = record { valid = w .valid; below = omega (arith, w .some, w .most) }
+  pub first-has-octet : HasOctet m (charactersBy decode t) s
+  first-has-octet = record { valid = w .valid; below = omega (arith, w .some, w .most) }
 
   abbrev chs : List Character
   chs = listed (charactersBy decode t)
@@ -116,7 +116,7 @@ module _ {decode : Decoder} (d : Decodes decode) {m : Mapping} (t : List ℕ) {s
   all : charactersBy decode t ≡ some chs
   all = listed-there (charactersBy decode t) (w .valid)
 
-  module _ {first : Holder} (h : Held m (charactersBy decode t) 0 s first) where
+  module _ {first : Holder} (h : HolderFound m (charactersBy decode t) 0 s first) where
     resumed : Resumed decode m t 0 s (first .start .0) chs
     resumed = resume d m t chs 0 s (first .start .0) (first .end .0) all (sym (h .place))
 
@@ -125,15 +125,15 @@ module _ {decode : Decoder} (d : Decodes decode) {m : Mapping} (t : List ℕ) {s
     first-offset = omega (arith, h .offset, offset-most m s chs)
 
     -- the last octet is within the key from there on
-    pub last-ahead : Ahead m (charactersBy decode (drop (first .start .0) t)) (first .offset + (e - 1 - s))
-    last-ahead =
+    pub last-has-octet : HasOctet m (charactersBy decode (drop (first .start .0) t)) (first .offset + (e - 1 - s))
+    last-has-octet =
         let r = resumed in
         let key = ap (λ (o : Option (List Character)). length (stepsKey m (listed o))) (r .there) in
         record { valid = ap there (r .there); below = omega (arith, w .some, w .most, h .offset, r .octets, key) }
 
     -- the two characters make the run
     pub run-covers : {last : Holder}
-        → Held m (charactersBy decode (drop (first .start .0) t)) (first .start .0) (first .offset + (e - 1 - s)) last
+        → HolderFound m (charactersBy decode (drop (first .start .0) t)) (first .start .0) (first .offset + (e - 1 - s)) last
         → span (first .start .0) (last .end .0) ≡ runIn m (charactersBy decode t) (span s e)
     unfolding covering
     run-covers {last} l =

@@ -35,7 +35,7 @@ offsetOf m k (ch ∷ chs) =
     (offsetOf m (k - length (expanded m (ch .code))) chs)
 
 -- characters are there, and their key has more than k octets
-pub record Ahead (m : Mapping) (chs : Option (List Character)) (k : ℕ) : Type 0 where
+pub record HasOctet (m : Mapping) (chs : Option (List Character)) (k : ℕ) : Type 0 where
   pub valid : there chs ≡ true
   pub below : k < length (stepsKey m (listed chs))
 
@@ -44,7 +44,7 @@ abbrev pub holding : ℕ → ℕ → ℕ → Holder
 holding s e o = record { start = record { 0 = s }; end = record { 0 = e }; offset = o }
 
 -- of characters from a place on, the one that holds octet k of their key was found: its place, and which octet it is
-pub record Held (m : Mapping) (chs : Option (List Character)) (from k : ℕ) (r : Holder) : Type 0 where
+pub record HolderFound (m : Mapping) (chs : Option (List Character)) (from k : ℕ) (r : Holder) : Type 0 where
   pub place : some (span (r .start .0) (r .end .0)) ≡ holder m from k (listed chs)
   pub offset : r .offset ≡ offsetOf m k (listed chs)
 

@@ -10,7 +10,7 @@ ghost use Rattle.table.specs.Table.{table, mappingOf};
 ghost use Rattle.decompose.specs.TableCheck.{tableRefusal};
 ghost use Rattle.search.specs.Covering.{span};
 ghost use Rattle.search.specs.Substring.{runIn};
-ghost use Rattle.search.specs.Promises.{Within, Ahead, Held, holding, runSpan};
+ghost use Rattle.search.specs.Promises.{Within, HasOctet, HolderFound, holding, runSpan};
 
 // A run of a text, from its start to its end.
 pub struct Run {
@@ -60,8 +60,8 @@ fn find_holder(
     k: KeyPosition,
 ) -> Holder
     requires { ⌜ tableRefusal (table (now entries) (now pool)) ≡ none ⌝ }
-    requires { ⌜ Ahead (mappingOf (table (now entries) (now pool))) (characters (drop (from .0) (now text))) (k .0) ⌝ }
-    ensures { λ r. ⌜ Held (mappingOf (table (now (entries .entry)) (now (pool .entry)))) (characters (drop (from .0) (now (text .entry)))) (from .0) (k .0) r ⌝ }
+    requires { ⌜ HasOctet (mappingOf (table (now entries) (now pool))) (characters (drop (from .0) (now text))) (k .0) ⌝ }
+    ensures { λ r. ⌜ HolderFound (mappingOf (table (now (entries .entry)) (now (pool .entry)))) (characters (drop (from .0) (now (text .entry)))) (from .0) (k .0) r ⌝ }
 {
     let mut at = from.0;
     let mut left = k.0;

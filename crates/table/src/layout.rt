@@ -4,6 +4,7 @@
 // Each function is a line or two, so that it is inlined where it is called.
 ghost use mathlib.Core.Path.{_≡_};
 ghost use Prim.Native.Nat.{_<_, _≤_};
+ghost use lib.Dec.{eqb};
 ghost use Rattle.table.specs.Layout.{entryWidth, entry, entryCount, wholeEntries, numberAt, codeAt, titleAt, startAt, countAt, putEntry, firstEntries};
 
 // How many numbers an entry has.
@@ -14,6 +15,13 @@ pub fn entry_count(entries: &[u32]) -> usize
     ensures { λ r. ⌜ r ≡ entryCount (now (entries .entry)) ⌝ }
 {
     entries.len() / ENTRY_WIDTH
+}
+
+// Whether there is no whole entry. Not by the count: the compiler would read the length twice.
+pub fn has_no_entry(entries: &[u32]) -> bool
+    ensures { λ r. ⌜ r ≡ eqb (entryCount (now (entries .entry))) 0 ⌝ }
+{
+    entries.len() < ENTRY_WIDTH
 }
 
 // Whether a slice is whole entries, and nothing is left over.

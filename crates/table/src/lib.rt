@@ -114,8 +114,7 @@ fn within_reach(entries: &[u32], sought: u32) -> usize
     requires { ⌜ Ascending (now entries) ⌝ }
     ensures { λ r. ⌜ Candidates (now (entries .entry)) sought 0 r ⌝ }
 {
-    let count = layout::entry_count(entries);
-    if count == 0 {
+    if layout::has_no_entry(entries) {
         return 0;
     }
     let least = layout::code_at(entries, 0);
@@ -123,6 +122,7 @@ fn within_reach(entries: &[u32], sought: u32) -> usize
         return 0;
     }
     let reach = (sought - least) as usize + 1;
+    let count = layout::entry_count(entries);
     if reach < count {
         return reach;
     }

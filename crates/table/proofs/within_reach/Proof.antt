@@ -1,19 +1,33 @@
 -- `table::within_reach` meets its contract: the code points ascend, so entry k has at least the first code point and k.
 -- Assumes nothing.
+use mathlib.Core.Path.{sym, _∙_}
 use native.Mathlib.Omega.{arith}
 use borrow.Author.Needs.{needs}
+use borrow.Author.Tests.{eqb-true, eqb-false}
+use Rattle.table.specs.Layout.{entryCount}
 use Rattle.table.proofs.Form.{ascending-from}
 use Rattle.table.proofs.within_reach.Statement.{statement}
 use Rattle.table.proofs.within_reach.Tie as tie
 
-entry-count-requires : tie.Need-entry-count-requires
-entry-count-requires c κs = search needs
+has-no-entry-requires : tie.Need-has-no-entry-requires
+has-no-entry-requires c κs = search needs
 
+-- there is no entry
 returns : tie.Need-returns
-returns c = search needs
+returns c =
+    let entries = c .before .before .before .args .entries .now in
+    let none = eqb-true (entryCount entries) 0 (sym (c .before .has-no-entry .ensures) ∙ c .if1 .taken) in
+    record {
+      within = omega arith;
+      first = λ l. absurd (omega arith);
+      above = λ k l m. absurd (omega (arith, none));
+    }
 
 code-at-requires : tie.Need-code-at-requires
-code-at-requires c κs = search needs
+code-at-requires c κs =
+    let entries = c .before .before .before .args .entries .now in
+    let some = eqb-false (entryCount entries) 0 (sym (c .before .has-no-entry .ensures) ∙ c .if1 .left) in
+    omega (arith, some)
 
 -- the first entry is above
 returns-2 : tie.Need-returns-2
@@ -31,10 +45,13 @@ cast-reach c = search needs
 add-reach : tie.Need-add-reach
 add-reach c = search needs
 
+entry-count-requires : tie.Need-entry-count-requires
+entry-count-requires c κs = search needs
+
 -- fewer than all
 returns-3 : tie.Need-returns-3
 returns-3 c =
-    let s = c .before .before .before .before .before .before in
+    let s = c .before .before .before .before .before .before .before in
     record {
       within = omega arith;
       first = λ l. omega arith;
@@ -47,4 +64,4 @@ returns-4 c = search needs
 pub within-reach-spec : {M : Type 1} → statement M
 within-reach-spec =
     tie.close
-    (tie.spec entry-count-requires returns code-at-requires returns-2 cast-reach add-reach returns-3 returns-4)
+    (tie.spec has-no-entry-requires returns code-at-requires returns-2 cast-reach add-reach entry-count-requires returns-3 returns-4)

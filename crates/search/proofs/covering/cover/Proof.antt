@@ -3,7 +3,7 @@
 use native.Mathlib.Omega.{arith}
 use borrow.Author.Needs.{needs}
 use Rattle.utf8.proofs.Characters.{utf8-decodes}
-use Rattle.search.proofs.Runs.{first-ahead, first-offset, last-ahead, run-covers}
+use Rattle.search.proofs.Runs.{first-has-octet, first-offset, last-has-octet, run-covers}
 use Rattle.search.proofs.covering.cover.Statement.{statement}
 use Rattle.search.proofs.covering.cover.Tie as tie
 
@@ -15,7 +15,7 @@ start c = c .before .before .before
 find-holder-requires : tie.Need-find-holder-requires
 find-holder-requires c κs =
     let s = start c in
-    (s .pre .0, first-ahead utf8-decodes (s .args .text .now) (s .pre .1))
+    (s .pre .0, first-has-octet utf8-decodes (s .args .text .now) (s .pre .1))
 
 sub-k : tie.Need-sub-k
 sub-k c = search needs
@@ -40,7 +40,7 @@ find-holder-requires-2 : tie.Need-find-holder-requires-2
 find-holder-requires-2 c κs =
     let found = c .before .before in
     let s = start (found .before) in
-    (s .pre .0, last-ahead utf8-decodes (s .args .text .now) (s .pre .1) (found .find-holder .ensures))
+    (s .pre .0, last-has-octet utf8-decodes (s .args .text .now) (s .pre .1) (found .find-holder .ensures))
 
 returns : tie.Need-returns
 returns c =

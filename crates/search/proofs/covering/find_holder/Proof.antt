@@ -55,7 +55,7 @@ loop-holds c = walking-start _ _ _ _ _ (c .before .before .before .pre .1)
 read-valid-requires : tie.Need-read-valid-requires Inv-loop μ-loop
 read-valid-requires c κs =
     let l = c .before in
-    there-next utf8-decodes (text-of l) (l .loop .at) (l .loop .inv .ahead .valid) (c .loop-test .taken)
+    there-next utf8-decodes (text-of l) (l .loop .at) (l .loop .inv .has-octet .valid) (c .loop-test .taken)
 
 -- the table is accepted
 size-expansion-requires : tie.Need-size-expansion-requires Inv-loop μ-loop
