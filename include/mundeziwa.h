@@ -118,8 +118,9 @@ void mz_order(uint32_t collation,
 
 /* Seeks the first text in the second. Leaves both keys as mz_equal does.
  * answer: number, place, detail; 1 match, 2 no-match, 0 refused; start and end of the lowest occurrence of the first key in the
- * second key; start and end of the smallest run of whole characters of the second text that covers it. Ends are one past the last
- * octet; all four are 0 where there is no match, and where the first text is empty (a match). Refusals 1 to 8. */
+ * second key; start and end of the smallest run of whole characters of the second text that covers it (of octets, under 1 and 2
+ * and where the text is not valid). Ends are one past the last octet; all four are 0 where there is no match, and where the first text
+ * is empty (a match). Refusals 1 to 8. */
 void mz_substring(uint32_t collation,
                   const uint8_t *first, size_t first_length,
                   const uint8_t *second, size_t second_length,
