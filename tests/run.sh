@@ -18,6 +18,7 @@ grep -Eqx '[0-9]+ passed, 0 failed' "$verdict" || fail "rt ci ended with: $(cat 
 rt fmt --check || fail 'rt fmt --check: a file is not in the layout (mend with: rt fmt)'
 bash tests/specification.sh || fail 'tests/specification.sh: docs/SPECIFICATION.md and the definitions differ'
 bash tests/library.sh || fail 'tests/library.sh: the library does not answer C or Rust as it should'
+bash tests/pairs.sh || fail 'tests/pairs.sh: the program pairs does not print what it should'
 bash tests/second.sh || fail 'tests/second.sh: the library and the second program differ, or could not be compared'
 bash tests/published.sh || fail 'tests/published.sh: the rows of crates/published are not those of the published file'
 bash tests/mistakes.sh || fail 'tests/mistakes.sh: a planted mistake was not found'
