@@ -42,4 +42,11 @@ echo "$EDITION  $MZ_UNICODE_DATA" | sha256sum --check --quiet - || fail "$MZ_UNI
 mkdir -p build
 cargo build --quiet --release --offline --manifest-path tests/compare/Cargo.toml || fail "the comparison doesn't build"
 python3 tests/second/nfkd.py "$MZ_UNICODE_DATA" > "$MZ_NFKD" || fail "nfkd.py failed"
-"$CARGO_TARGET_DIR/release/compare" || fail "the programs differ"
+status=0
+"$CARGO_TARGET_DIR/release/compare" || status=$?
+case $status in
+    0) ;;
+    1) fail "the programs differ" ;;
+    2) fail "the programs could not be compared" ;;
+    *) fail "the comparison broke off with status $status" ;;
+esac

@@ -3,9 +3,11 @@
 use crate::both::Table;
 use crate::building::Building;
 use crate::lines::{self, Published};
-use crate::published::{lines_of, read_file};
+use crate::published::{lines_of, read_unicode_data};
 use crate::random::Random;
-use crate::{faults, tables, texts, Settings};
+use crate::settings::Settings;
+use crate::stop::Stop;
+use crate::{faults, tables, texts};
 use second::unicode_data::State;
 use std::collections::BTreeMap;
 
@@ -21,8 +23,8 @@ struct Tally {
     runs: u64,
 }
 
-pub fn run(settings: &Settings) -> Result<u64, String> {
-    let octets = read_file(&settings.unicode_data)?;
+pub fn run(settings: &Settings) -> Result<u64, Stop> {
+    let octets = read_unicode_data(settings)?;
     let published = Published::new(lines_of(&octets));
     let mut random = Random::new(settings.seed);
     let mut tally = Tally::default();
@@ -96,8 +98,8 @@ fn one_file(random: &mut Random, tally: &mut Tally, published: &Published) -> Re
 }
 
 impl Tally {
-    /// Prints how often each answer came, and fails if one that could come never did.
-    fn report(&self, cases: u64) -> Result<(), String> {
+    /// Prints how often each answer came. It is an error if one that could come never did.
+    fn report(&self, cases: u64) -> Result<(), Stop> {
         println!("  answers to pairs of texts: {}", Tally::list(&self.calls));
         println!("  answers to lines: {}", Tally::list(&self.lines));
         println!("  matches: {}, of them with another place in the text than in the key: {}", self.matches, self.runs);
@@ -105,7 +107,7 @@ impl Tally {
         let lines = std::iter::once(0).chain(20..=28).filter(|number| !self.lines.contains_key(number));
         let missing: Vec<u64> = calls.chain(lines).collect();
         if cases >= ENOUGH && (!missing.is_empty() || self.runs == 0) {
-            return Err(format!("answers that never came: {missing:?}"));
+            return Err(Stop::Error(format!("answers that never came: {missing:?}")));
         }
         Ok(())
     }

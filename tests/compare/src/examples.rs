@@ -2,7 +2,9 @@
 
 use crate::both::{pattern, Case, Table};
 use crate::made::lay_out;
-use crate::{example_lines, example_tables, Settings};
+use crate::settings::Settings;
+use crate::stop::Stop;
+use crate::{example_lines, example_tables};
 
 /// Table T as code point / titlecase / decomposition.
 pub const T: [(u32, Option<u32>, &[u32]); 12] = [
@@ -28,7 +30,7 @@ struct Examples {
     cases: u64,
 }
 
-pub fn run(_: &Settings) -> Result<u64, String> {
+pub fn run(_: &Settings) -> Result<u64, Stop> {
     let mut examples = Examples { table: table_t()?, cases: 0 };
     examples.keys()?;
     examples.validity()?;

@@ -1,6 +1,9 @@
 //! Runs the proved library and the second program on the same inputs.
 //!
-//! One line for each part with its number of cases, or the first difference: both answers, the inputs in hex, and exit status 1.
+//! One line for each part with its number of cases. Exit status 1 and the first difference on standard output: both answers, and the
+//! inputs in hex. Exit status 2 and a message on standard error if the comparison can't be made: a file or a setting is at fault, or a
+//! part would run no case.
+//!
 //! Variables: MZ_SEED and MZ_CASES (the random part), MZ_UNICODE_DATA and MZ_NFKD (files of part 2), UTF8_TEST (the published
 //! stress test, if it is at hand), MZ_SHORT=yes (part 2 without the scalar code points and NFKD, fewer cases in 3 and 4),
 //! MZ_PARTS (the numbers of the parts to run, all without it).
@@ -20,65 +23,55 @@ mod lines;
 mod made;
 mod published;
 mod random;
+mod settings;
 mod small;
+mod stop;
 mod stress;
 mod tables;
 mod texts;
 
-use std::env::var;
+use settings::Settings;
 use std::process::ExitCode;
+use stop::Stop;
 
-const SEED: u64 = 20_071_001;
-const CASES: u64 = 100_000;
+const DIFFERENCE: u8 = 1;
+const ERROR: u8 = 2;
 
-pub struct Settings {
-    pub seed: u64,
-    pub cases: u64,
-    pub unicode_data: String,
-    pub nfkd: String,
-    pub utf8_test: Option<String>,
-    pub short: bool,
-    pub parts: String,
+struct Part {
+    number: char,
+    name: &'static str,
+    /// Runs the part and answers how many cases it had.
+    run: fn(&Settings) -> Result<u64, Stop>,
 }
-
-/// A number from a variable, or its default; anything else in the variable is an error.
-fn number(name: &str, default: u64) -> Result<u64, String> {
-    match var(name) {
-        Ok(value) => value.parse().map_err(|_| format!("{name} is no number: {value}")),
-        Err(_) => Ok(default),
-    }
-}
-
-fn settings() -> Result<Settings, String> {
-    Ok(Settings {
-        seed: number("MZ_SEED", SEED)?,
-        cases: number("MZ_CASES", CASES)?,
-        unicode_data: var("MZ_UNICODE_DATA").unwrap_or("/usr/share/unicode/UnicodeData.txt".to_string()),
-        nfkd: var("MZ_NFKD").unwrap_or_default(),
-        utf8_test: var("UTF8_TEST").ok().filter(|path| !path.is_empty()),
-        short: var("MZ_SHORT").is_ok_and(|value| value == "yes"),
-        parts: var("MZ_PARTS").unwrap_or("12345".to_string()),
-    })
-}
-
-/// A part's name, whose first digit is its number, and what runs it.
-type Part = (&'static str, fn(&Settings) -> Result<u64, String>);
 
 const PARTS: [Part; 5] = [
-    ("part 1, examples", examples::run),
-    ("part 2, UnicodeData", published::run),
-    ("part 3, UTF-8 sequences", stress::run),
-    ("part 4, small cases", small::run),
-    ("part 5, random cases", cases::run),
+    Part { number: '1', name: "part 1, examples", run: examples::run },
+    Part { number: '2', name: "part 2, UnicodeData", run: published::run },
+    Part { number: '3', name: "part 3, UTF-8 sequences", run: stress::run },
+    Part { number: '4', name: "part 4, small cases", run: small::run },
+    Part { number: '5', name: "part 5, random cases", run: cases::run },
 ];
 
-fn run_parts() -> Result<(), String> {
+/// The parts that a list of numbers names, in their order.
+fn chosen(numbers: &str) -> Result<Vec<&'static Part>, Stop> {
+    let is_known = |number: char| PARTS.iter().any(|part| part.number == number);
+    if numbers.is_empty() || !numbers.chars().all(is_known) {
+        return Err(Stop::Error(format!("MZ_PARTS names no parts of 1 to {}: {numbers:?}", PARTS.len())));
+    }
+    Ok(PARTS.iter().filter(|part| numbers.contains(part.number)).collect())
+}
+
+fn run_parts() -> Result<(), Stop> {
     abi::check_interface();
-    let settings = settings()?;
+    let settings = Settings::read()?;
+    let parts = chosen(&settings.parts)?;
     println!("seed {}, {} random cases", settings.seed, settings.cases);
-    for (name, run) in PARTS.iter().filter(|(name, _)| settings.parts.contains(&name[5..6])) {
-        let cases = run(&settings).map_err(|difference| format!("{name}: DIFFERENCE\n{difference}"))?;
-        println!("{name}: {cases} cases, no difference");
+    for part in parts {
+        let cases = (part.run)(&settings).map_err(|stop| stop.in_part(part.name))?;
+        if cases == 0 {
+            return Err(Stop::Error(format!("{}: no case was run", part.name)));
+        }
+        println!("{}: {cases} cases, no difference", part.name);
     }
     Ok(())
 }
@@ -88,13 +81,17 @@ fn main() -> ExitCode {
     let worker = std::thread::Builder::new().stack_size(256 << 20).spawn(run_parts);
     match worker.expect("a thread").join() {
         Ok(Ok(())) => ExitCode::SUCCESS,
-        Ok(Err(difference)) => {
+        Ok(Err(Stop::Difference(difference))) => {
             println!("{difference}");
-            ExitCode::FAILURE
+            ExitCode::from(DIFFERENCE)
+        }
+        Ok(Err(Stop::Error(error))) => {
+            eprintln!("compare: {error}");
+            ExitCode::from(ERROR)
         }
         Err(_) => {
-            println!("the comparison broke off");
-            ExitCode::FAILURE
+            eprintln!("compare: the comparison broke off");
+            ExitCode::from(ERROR)
         }
     }
 }

@@ -3,11 +3,12 @@
 use crate::both::Table;
 use crate::building::Building;
 use crate::hex::hex;
-use crate::Settings;
+use crate::settings::Settings;
+use crate::stop::Stop;
 use second::unicode_data::State;
 
 /// What edition 15.0.0 of the file holds; tests/second.sh checks its SHA-256.
-pub const LINES: usize = 34_924;
+const LINES: usize = 34_924;
 const ENTRIES: usize = 6_795;
 const POOL: usize = 8_663;
 
@@ -23,21 +24,35 @@ pub fn lines_of(octets: &[u8]) -> Vec<&[u8]> {
     lines
 }
 
-pub fn read_file(path: &str) -> Result<Vec<u8>, String> {
-    std::fs::read(path).map_err(|error| format!("{path} can't be read: {error}"))
+pub fn read_file(path: &str) -> Result<Vec<u8>, Stop> {
+    std::fs::read(path).map_err(|error| Stop::Error(format!("{path} can't be read: {error}")))
 }
 
-pub fn run(settings: &Settings) -> Result<u64, String> {
+/// The published file, whole.
+pub fn read_unicode_data(settings: &Settings) -> Result<Vec<u8>, Stop> {
     let octets = read_file(&settings.unicode_data)?;
+    match lines_of(&octets).len() {
+        LINES => Ok(octets),
+        other => Err(Stop::Error(format!("{} has {other} lines, edition 15.0.0 has {LINES}", settings.unicode_data))),
+    }
+}
+
+pub fn run(settings: &Settings) -> Result<u64, Stop> {
+    let octets = read_unicode_data(settings)?;
     let lines = lines_of(&octets);
-    let table = build(&lines)?;
     if settings.short {
+        build(&lines)?;
         return Ok(lines.len() as u64);
     }
+    let nfkd = read_nfkd(settings)?;
+    let table = build(&lines)?;
     one_by_one(&table)?;
     in_long_texts(&table)?;
+    for (scalar, key) in &nfkd {
+        compare_one(&table, *scalar, key)?;
+    }
     table.check_unchanged()?;
-    let nfkd = compare_nfkd(settings, &table)?;
+    let nfkd = nfkd.len() as u64;
     println!("  UnicodeData.txt: {} lines, {ENTRIES} entries, {POOL} pool numbers, {SCALARS} scalar code points", lines.len());
     println!("  NFKD of the titlecase by Python: {nfkd} code points");
     Ok(lines.len() as u64 + SCALARS + nfkd)
@@ -56,7 +71,7 @@ fn build(lines: &[&[u8]]) -> Result<Table, String> {
     }
     building.compare_slices()?;
     let (entries_used, pool_used) = (state.entries_used as usize, state.pool_used as usize);
-    if (lines.len(), entries_used, pool_used) != (LINES, ENTRIES, POOL) {
+    if (entries_used, pool_used) != (ENTRIES, POOL) {
         return Err(format!("{} lines gave {entries_used} entries and {pool_used} pool numbers", lines.len()));
     }
     let table = Table::new(building.entries[..4 * entries_used].to_vec(), building.pool[..pool_used].to_vec())?;
@@ -101,39 +116,37 @@ fn in_long_texts(table: &Table) -> Result<(), String> {
     Ok(())
 }
 
-/// tests/second/nfkd.py writes a line for each code point, its number and its octets, and last how many there were.
-fn compare_nfkd(settings: &Settings, table: &Table) -> Result<u64, String> {
-    if settings.nfkd.is_empty() {
-        return Err("MZ_NFKD names no file; tests/second.sh makes it".to_string());
-    }
-    let octets = read_file(&settings.nfkd)?;
-    let text = String::from_utf8(octets).map_err(|_| "the NFKD file isn't text".to_string())?;
-    let mut seen = 0;
-    let mut total: Option<u64> = None;
+/// The key of every code point that tests/second/nfkd.py has written: a line each, its number and its octets, and last how many there
+/// were.
+fn read_nfkd(settings: &Settings) -> Result<Vec<(char, Vec<u8>)>, Stop> {
+    let fault = |what: String| Stop::Error(format!("the NFKD file {:?}, which tests/second.sh makes, {what}", settings.nfkd));
+    let octets = std::fs::read(&settings.nfkd).map_err(|error| fault(format!("can't be read: {error}")))?;
+    let text = String::from_utf8(octets).map_err(|_| fault("isn't text".to_string()))?;
+    let mut keys = Vec::new();
+    let mut total: Option<usize> = None;
     for line in text.lines() {
         match line.split_once(' ') {
             Some(("total", number)) => total = number.parse().ok(),
-            Some((number, key)) => {
-                compare_one(table, number, key)?;
-                seen += 1;
-            }
-            None => return Err(format!("the NFKD file has a line that says nothing: {line:?}")),
+            Some((number, key)) => keys.push(read_key(number, key).ok_or_else(|| fault(format!("has the line {line:?}")))?),
+            None => return Err(fault(format!("has the line {line:?}"))),
         }
     }
     match total {
-        Some(total) if total == seen && seen > 0 => Ok(seen),
-        _ => Err(format!("the NFKD file has {seen} code points and says {total:?}")),
+        Some(total) if total == keys.len() && total > 0 => Ok(keys),
+        _ => Err(fault(format!("has {} code points and says {total:?}", keys.len()))),
     }
 }
 
-fn compare_one(table: &Table, number: &str, key: &str) -> Result<(), String> {
-    let bad = || format!("the NFKD file has a line that can't be read: {number} {key}");
-    let scalar = u32::from_str_radix(number, 16).ok().and_then(char::from_u32).ok_or_else(bad)?;
-    let key = read_hex(key).ok_or_else(bad)?;
+fn read_key(number: &str, key: &str) -> Option<(char, Vec<u8>)> {
+    let scalar = char::from_u32(u32::from_str_radix(number, 16).ok()?)?;
+    Some((scalar, read_hex(key)?))
+}
+
+fn compare_one(table: &Table, scalar: char, key: &[u8]) -> Result<(), String> {
     let answer = table.prepare(true, 3, scalar.to_string().as_bytes(), 128)?;
     let ours = &answer.first_key[..answer.row[5] as usize];
     if ours != key {
-        return Err(format!("{number}: both programs answer {}, NFKD by Python is {}", hex(ours), hex(&key)));
+        return Err(format!("{:04X}: both programs answer {}, NFKD by Python is {}", scalar as u32, hex(ours), hex(key)));
     }
     Ok(())
 }

@@ -3,11 +3,12 @@
 use crate::both::{Case, Table};
 use crate::building::Building;
 use crate::examples::table_t;
-use crate::Settings;
+use crate::settings::Settings;
+use crate::stop::Stop;
 use second::key::key_of;
 use second::unicode_data::State;
 
-pub fn run(settings: &Settings) -> Result<u64, String> {
+pub fn run(settings: &Settings) -> Result<u64, Stop> {
     let (needle, hay) = if settings.short { (3, 5) } else { (5, 9) };
     let found = words(needle, hay)?;
     let cuts = cuts(if settings.short { 2 } else { 4 })?;

@@ -4,7 +4,8 @@
 use crate::both::Table;
 use crate::hex::hex;
 use crate::published::{lines_of, read_file};
-use crate::Settings;
+use crate::settings::Settings;
+use crate::stop::Stop;
 
 /// The sequences of the published stress test, with a verdict each.
 const SEQUENCES: &str = include_str!("../../data/utf8-sequences.txt");
@@ -15,7 +16,7 @@ const EDGES: [u8; 26] = [
     0xF3, 0xF4, 0xF5, 0xF8, 0xFF,
 ];
 
-pub fn run(settings: &Settings) -> Result<u64, String> {
+pub fn run(settings: &Settings) -> Result<u64, Stop> {
     let table = Table::new(vec![], vec![])?;
     let mut cases = listed(&table)?;
     cases += edges(&table, if settings.short { 2 } else { 4 })?;
@@ -40,25 +41,32 @@ fn is_valid(table: &Table, text: &[u8]) -> Result<bool, String> {
 
 /// Every sequence of the data file, which has its number, its verdict and its octets: alone, and in a line as the published file has it,
 /// between quotation marks and with plain octets around them.
-fn listed(table: &Table) -> Result<u64, String> {
+fn listed(table: &Table) -> Result<u64, Stop> {
     let mut cases = 0;
     for line in SEQUENCES.lines().filter(|line| !line.is_empty() && !line.starts_with('#')) {
-        let words: Vec<&str> = line.split_whitespace().collect();
-        let octets: Option<Vec<u8>> = words[2..].iter().map(|digits| u8::from_str_radix(digits, 16).ok()).collect();
-        let octets = octets.ok_or_else(|| format!("the data file has a line that can't be read: {line}"))?;
-        let quoted = [words[0].as_bytes(), b" \"", &octets, b"\"    |"].concat();
+        let (number, expected, octets) =
+            read_sequence(line).ok_or_else(|| Stop::Error(format!("the data file has a line that can't be read: {line}")))?;
+        let quoted = [number.as_bytes(), b" \"", &octets, b"\"    |"].concat();
         for text in [octets, quoted] {
             let verdict = if is_valid(table, &text)? { "valid" } else { "invalid" };
-            if verdict != words[1] {
-                return Err(format!("{line}: both programs say {verdict} of {}", hex(&text)));
+            if verdict != expected {
+                return Err(Stop::Difference(format!("{line}: both programs say {verdict} of {}", hex(&text))));
             }
             cases += 1;
         }
     }
     match cases {
-        0 => Err("the data file of UTF-8 sequences is empty".to_string()),
+        0 => Err(Stop::Error("the data file of UTF-8 sequences is empty".to_string())),
         _ => Ok(cases),
     }
+}
+
+/// A line of the data file: the number of the sequence, its verdict and its octets.
+fn read_sequence(line: &str) -> Option<(&str, &str, Vec<u8>)> {
+    let words: Vec<&str> = line.split_whitespace().collect();
+    let [number, verdict, digits @ ..] = &words[..] else { return None };
+    let octets: Option<Vec<u8>> = digits.iter().map(|pair| u8::from_str_radix(pair, 16).ok()).collect();
+    Some((number, verdict, octets?))
 }
 
 /// Every sequence of at most so many octets out of `EDGES`.
