@@ -1,39 +1,61 @@
 #!/usr/bin/env bash
-# Sees the comparison fail: builds it once with each mistake that tests/second/Cargo.toml names, and each must be found.
+# Sees the comparison fail: each edit of tests/mistakes plants one mistake in a copy of the second program, and each must be found.
 #
-# Needs what tests/second.sh needs, but no Python: the comparison is run with fewer cases (MZ_SHORT, MZ_CASES). Prints
-# `NAME found by PART` for each mistake. A mistake that isn't found, doesn't build, or stops in another way is a failure.
-# MZ_JOBS is how many are tried at once, each job in a build directory of its own. With a name as argument: that mistake alone.
+# Needs what tests/second.sh needs; the comparison is run with fewer cases (MZ_SHORT, MZ_CASES). Prints `NAME found by PART` for each
+# mistake. One that isn't found, doesn't fit the second program, doesn't build, or stops the comparison in another way than by a difference
+# (exit status 1) is a failure. MZ_JOBS is how many are tried at once, each job on a copy and in a build directory of its own. With a
+# name as argument: that mistake alone.
 set -euo pipefail
 cd "$(dirname "$0")/.."
 
 MUNDEZIWA_LIB_DIR="$(realpath -m "${MUNDEZIWA_LIB_DIR:-build/lib}")"
 export MUNDEZIWA_LIB_DIR
-export CARGO_TARGET_DIR="$PWD/build/mistakes${JOB:-0}"
-export MZ_SHORT=yes MZ_CASES="${MZ_CASES:-5000}"
+readonly WORK="$PWD/build/mistakes${JOB:-0}"
+readonly COPY="$WORK/copy"
+export CARGO_TARGET_DIR="$WORK/target"
 readonly COMPARE="$CARGO_TARGET_DIR/mistakes/compare"
-readonly MANIFEST=tests/compare/Cargo.toml
+export MZ_SHORT=yes MZ_CASES="${MZ_CASES:-5000}"
+# An edit may leave something unused behind; a warning of that says nothing.
+export RUSTFLAGS=-Awarnings
 
 fail() {
     echo "mistakes: $*" >&2
     exit 1
 }
 
-build() {
-    cargo build --quiet --profile mistakes --offline --manifest-path "$MANIFEST" "$@"
+# Copies what the comparison is built of. Cargo goes by the files' times: those of the second program are new each time, so that what one
+# mistake left is never taken for the next, and the others keep theirs.
+copy() {
+    rm -rf "$COPY"
+    mkdir -p "$COPY/tests" "$COPY/bindings/rust/src"
+    cp -r tests/second "$COPY/tests"
+    cp -a tests/compare tests/data "$COPY/tests"
+    cp -a bindings/rust/src/ffi.rs "$COPY/bindings/rust/src"
 }
 
-# Builds with one mistake and says which part finds it.
+build() {
+    cargo build --quiet --profile mistakes --offline --manifest-path "$COPY/tests/compare/Cargo.toml"
+}
+
+# Plants one mistake and says which part finds it.
 try() {
-    local output part
-    build --features "second/$1" || { echo "$1 DOESN'T BUILD"; return 1; }
-    if output=$("$COMPARE"); then
-        echo "$1 NOT FOUND"
-        return 1
-    fi
-    part=$(sed -n 's/: DIFFERENCE$//p' <<< "$output")
-    [ -n "$part" ] || { echo "$1 STOPPED WITHOUT A DIFFERENCE"; return 1; }
-    echo "$1 found by $part"
+    local output status=0
+    copy
+    python3 tests/edit.py "tests/mistakes/$1.edit" "$COPY/tests/second" || { echo "$1 DOESN'T FIT"; return 1; }
+    build || { echo "$1 DOESN'T BUILD"; return 1; }
+    output=$("$COMPARE") || status=$?
+    case $status in
+        0) echo "$1 NOT FOUND"; return 1 ;;
+        1) echo "$1 found by $(sed -n 's/: DIFFERENCE$//p' <<< "$output")" ;;
+        *) echo "$1 STOPPED WITH STATUS $status AND NOT BY A DIFFERENCE"; return 1 ;;
+    esac
+}
+
+# must_be_error VARIABLE=VALUE..: with these the comparison can't be made, and that is exit status 2.
+must_be_error() {
+    local status=0
+    env "$@" "$COMPARE" > /dev/null 2>&1 || status=$?
+    [ "$status" -eq 2 ] || fail "$* gives exit status $status, not 2"
 }
 
 if [ $# -gt 0 ]; then
@@ -43,11 +65,27 @@ fi
 
 # Without a mistake nothing may be found, or what follows says nothing.
 [ -f "$MUNDEZIWA_LIB_DIR/libmundeziwa.a" ] || fail "no libmundeziwa.a in $MUNDEZIWA_LIB_DIR"
+copy
 build || fail "the comparison doesn't build"
 output=$("$COMPARE") || { echo "$output"; fail "the comparison fails without any mistake"; }
 
-mapfile -t names < <(sed -n 's/^\(mistake_[a-z0-9_]*\) = .*/\1/p' tests/second/Cargo.toml)
-[ "${#names[@]}" -gt 0 ] || fail "tests/second/Cargo.toml names none"
+# A comparison that can't be made is no difference.
+must_be_error MZ_PARTS=9
+must_be_error MZ_PARTS=
+must_be_error MZ_CASES=0
+must_be_error MZ_CASES=many
+must_be_error MZ_SEED=-1
+must_be_error MZ_SHORT=maybe
+must_be_error MZ_PARTS=2 MZ_UNICODE_DATA=/nowhere
+must_be_error MZ_PARTS=5 MZ_UNICODE_DATA=/dev/null
+must_be_error MZ_PARTS=2 MZ_SHORT= MZ_NFKD=/nowhere
+must_be_error MZ_PARTS=3 UTF8_TEST=/nowhere
+
+names=()
+for edit in tests/mistakes/*.edit; do
+    names+=("$(basename "$edit" .edit)")
+done
+[ -f "tests/mistakes/${names[0]}.edit" ] || fail "tests/mistakes has no edit"
 printf '%s\n' "${names[@]}" | xargs -n 1 -P "${MZ_JOBS:-2}" --process-slot-var=JOB bash tests/mistakes.sh \
     || fail "not all of ${#names[@]} were found"
 echo "${#names[@]} mistakes, all found"

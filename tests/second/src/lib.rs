@@ -3,8 +3,6 @@
 //! It shares nothing with the proved library but the papers. The calls take what the C header's calls take and answer with the
 //! same rows of numbers, so that `tests/compare` can run both on the same inputs. Where a paper gives a definition, the code is
 //! that definition; speed is no aim, except that no input may take forever.
-//!
-//! `cfg!(feature = "mistake_..")` marks a planted mistake. None is on unless `tests/mistakes.sh` asks for it.
 
 pub mod collate;
 pub mod key;

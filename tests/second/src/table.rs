@@ -40,7 +40,7 @@ pub type Verdict = Result<Table, Refusal>;
 pub fn examine(entries: &[u32], pool: &[u32]) -> Verdict {
     check_sizes(entries, pool)?;
     let rows: Vec<&[u32]> = entries.chunks_exact(4).collect();
-    check_code_points(&rows, pool.len())?;
+    check_code_points(&rows)?;
     check_places(&rows, pool.len())?;
     check_pool(pool)?;
     let table = read(&rows, pool);
@@ -55,50 +55,38 @@ pub fn is_scalar(number: u32) -> bool {
 
 /// A refusal whose detail is an entry, counted from 0.
 pub fn refuse_entry(number: u64, index: usize) -> Refusal {
-    Refusal::of_no_text(number, if cfg!(feature = "mistake_entries_counted_from_1") { index + 1 } else { index })
+    Refusal::of_no_text(number, index)
 }
 
 /// 3: "entry slice not a multiple of 4 long, over 16,384 entries, or pool over 65,536".
 fn check_sizes(entries: &[u32], pool: &[u32]) -> Result<(), Refusal> {
-    let odd = entries.len() % 4 != 0 && !cfg!(feature = "mistake_odd_entry_slice_rounded");
-    let most = if cfg!(feature = "mistake_16385_entries_accepted") { ENTRIES_MOST + 1 } else { ENTRIES_MOST };
-    if odd || entries.len() / 4 > most || pool.len() > POOL_MOST {
+    let odd = entries.len() % 4 != 0;
+    if odd || entries.len() / 4 > ENTRIES_MOST || pool.len() > POOL_MOST {
         return Err(Refusal::of_no_text(3, 0));
     }
     Ok(())
 }
 
 /// 4: "an entry's code point or titlecase not scalar, or its code point not above the entry before".
-fn check_code_points(rows: &[&[u32]], pool_length: usize) -> Result<(), Refusal> {
+fn check_code_points(rows: &[&[u32]]) -> Result<(), Refusal> {
     for (index, row) in rows.iter().enumerate() {
-        let falls = index > 0 && !ascends(rows[index - 1][0], row[0]);
+        let falls = index > 0 && row[0] <= rows[index - 1][0];
         if !is_scalar(row[0]) || !is_scalar(row[1]) || falls {
             return Err(refuse_entry(4, index));
-        }
-        if cfg!(feature = "mistake_4_and_5_in_one_pass") {
-            check_place(index, row, sum_of_counts(&rows[..index]), pool_length)?;
         }
     }
     Ok(())
 }
 
-fn ascends(before: u32, code_point: u32) -> bool {
-    before < code_point || cfg!(feature = "mistake_same_code_point_twice_accepted") && before == code_point
-}
-
-/// "A start is always the sum of all earlier counts"; the sum is meant without bound.
-fn sum_of_counts(rows: &[&[u32]]) -> u128 {
-    rows.iter().map(|row| u128::from(row[3])).sum()
-}
-
-/// 5: a faulty entry, "or pool longer than all counts".
+/// 5: a faulty entry, "or pool longer than all counts". "A start is always the sum of all earlier counts"; the sum is meant
+/// without bound.
 fn check_places(rows: &[&[u32]], pool_length: usize) -> Result<(), Refusal> {
     let mut sum: u128 = 0;
     for (index, row) in rows.iter().enumerate() {
         check_place(index, row, sum, pool_length)?;
         sum += u128::from(row[3]);
     }
-    if pool_length as u128 > sum && !cfg!(feature = "mistake_longer_pool_accepted") {
+    if pool_length as u128 > sum {
         return Err(refuse_entry(5, rows.len()));
     }
     Ok(())
@@ -107,12 +95,10 @@ fn check_places(rows: &[&[u32]], pool_length: usize) -> Result<(), Refusal> {
 /// 5 of one entry: "count over 32, wrong start, parts past the pool's end, or saying nothing".
 fn check_place(index: usize, row: &[u32], sum: u128, pool_length: usize) -> Result<(), Refusal> {
     let (code_point, titlecase, start, count) = (row[0], row[1], row[2], row[3]);
-    let count_most = if cfg!(feature = "mistake_count_33_accepted") { COUNT_MOST + 1 } else { COUNT_MOST };
-    let start_matters = count > 0 || !cfg!(feature = "mistake_start_of_count_0_unchecked");
-    let wrong_start = u128::from(start) != sum && start_matters;
-    let past_end = u128::from(start) + u128::from(count) > pool_length as u128 && start_matters;
-    let says_nothing = titlecase == code_point && count == 0 && !cfg!(feature = "mistake_says_nothing_accepted");
-    if count > count_most || wrong_start || past_end || says_nothing {
+    let wrong_start = u128::from(start) != sum;
+    let past_end = u128::from(start) + u128::from(count) > pool_length as u128;
+    let says_nothing = titlecase == code_point && count == 0;
+    if count > COUNT_MOST || wrong_start || past_end || says_nothing {
         return Err(refuse_entry(5, index));
     }
     Ok(())
@@ -131,7 +117,7 @@ fn read(rows: &[&[u32]], pool: &[u32]) -> Table {
     let mut table = Table::default();
     for row in rows {
         let titlecase = if row[1] == row[0] { None } else { Some(row[1]) };
-        let start = if row[3] == 0 { 0 } else { row[2] as usize };
+        let start = row[2] as usize;
         let parts = pool[start..start + row[3] as usize].to_vec();
         table.mappings.insert(row[0], Mapping { titlecase, parts });
     }

@@ -34,7 +34,6 @@ impl Heights {
     /// is still open leads back to itself, so whatever has it as a part leads into that cycle.
     pub fn of(&mut self, code_point: u32, table: &Table) -> Option<Height> {
         match self.known.get(&code_point) {
-            Some(Known::Open) if cfg!(feature = "mistake_cycle_has_a_level") => return Some(Height { level: 0, full: 1 }),
             Some(Known::Open) => return None,
             Some(Known::Done(height)) => return *height,
             None => {}
@@ -55,9 +54,6 @@ impl Heights {
             let height = self.of(part, table)?;
             sum.level = sum.level.max(height.level.saturating_add(1));
             sum.full = sum.full.saturating_add(height.full);
-            if cfg!(feature = "mistake_sizes_wrap") {
-                sum.full %= 1 << 32;
-            }
         }
         Some(sum)
     }
@@ -66,13 +62,8 @@ impl Heights {
 /// 7: "an entry whose code point has no level, a level over 8, or a full decomposition over 32 code points".
 pub fn check_levels(table: &Table) -> Result<(), Refusal> {
     let mut heights = Heights::default();
-    for (index, (&code_point, mapping)) in table.mappings.iter().enumerate() {
-        let fits = is_within(heights.of(code_point, table));
-        let titlecase_fits = match mapping.titlecase {
-            Some(titlecase) if cfg!(feature = "mistake_7_follows_titlecase") => is_within(heights.of(titlecase, table)),
-            _ => true,
-        };
-        if !fits || !titlecase_fits {
+    for (index, &code_point) in table.mappings.keys().enumerate() {
+        if !is_within(heights.of(code_point, table)) {
             return Err(refuse_entry(7, index));
         }
     }
@@ -80,9 +71,7 @@ pub fn check_levels(table: &Table) -> Result<(), Refusal> {
 }
 
 fn is_within(height: Option<Height>) -> bool {
-    let level_most = if cfg!(feature = "mistake_level_9_accepted") { LEVEL_MOST + 1 } else { LEVEL_MOST };
-    let full_most = if cfg!(feature = "mistake_33_code_points_accepted") { FULL_MOST + 1 } else { FULL_MOST };
-    height.is_some_and(|height| height.level <= level_most && height.full <= full_most)
+    height.is_some_and(|height| height.level <= LEVEL_MOST && height.full <= FULL_MOST)
 }
 
 /// Unfolds a code point of an accepted table: appends its full decomposition and answers how many asks that took.
@@ -90,16 +79,11 @@ pub fn unfold(code_point: u32, table: &Table, full: &mut Vec<u32>) -> u64 {
     let parts = table.parts(code_point);
     if parts.is_empty() {
         full.push(code_point);
-        return if cfg!(feature = "mistake_only_found_asks_counted") { 0 } else { 1 };
+        return 1;
     }
     let mut asks = 1;
     for &part in parts {
-        if cfg!(feature = "mistake_one_step_of_decomposition") {
-            full.push(part);
-            asks += 1;
-        } else {
-            asks += unfold(part, table, full);
-        }
+        asks += unfold(part, table, full);
     }
     asks
 }

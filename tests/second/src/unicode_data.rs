@@ -38,7 +38,6 @@ impl Line {
 pub fn add_line(state: State, line: &[u8], entries: &mut [u32], pool: &mut [u32]) -> [u64; 6] {
     let (number, after) = match try_line(state, line, entries, pool) {
         Ok(after) => (0, after),
-        Err(number) if cfg!(feature = "mistake_state_zeroed_on_refusal") => (number, State::default()),
         Err(number) => (number, state),
     };
     [number, 0, 0, after.entries_used, after.pool_used, after.next]
@@ -49,22 +48,17 @@ fn try_line(state: State, line: &[u8], entries: &mut [u32], pool: &mut [u32]) ->
     if is_impossible(state, entries.len(), pool.len()) {
         return Err(28);
     }
-    let most = if cfg!(feature = "mistake_513_octets_accepted") { LINE_MOST + 1 } else { LINE_MOST };
-    if line.len() > most {
+    if line.len() > LINE_MOST {
         return Err(20);
     }
     let said = read_line(line)?;
-    let surrogate = said.has_surrogate() && (said.has_mapping() || cfg!(feature = "mistake_25_without_a_mapping"));
-    let falls =
-        u64::from(said.code_point) < state.next && (said.has_mapping() || !cfg!(feature = "mistake_26_only_with_a_mapping"));
-    if surrogate && !(falls && cfg!(feature = "mistake_26_before_25")) {
+    if said.has_mapping() && said.has_surrogate() {
         return Err(25);
     }
-    if falls {
+    if u64::from(said.code_point) < state.next {
         return Err(26);
     }
-    let needs_room = said.has_mapping() || cfg!(feature = "mistake_27_without_a_mapping");
-    if needs_room && !has_room(state, &said, entries.len(), pool.len()) {
+    if said.has_mapping() && !has_room(state, &said, entries.len(), pool.len()) {
         return Err(27);
     }
     let mut after = State { next: u64::from(said.code_point) + 1, ..state };
@@ -80,7 +74,7 @@ fn try_line(state: State, line: &[u8], entries: &mut [u32], pool: &mut [u32]) ->
 fn is_impossible(state: State, entries_length: usize, pool_length: usize) -> bool {
     let over_slices = state.entries_used > entries_length as u64 / 4 || state.pool_used > pool_length as u64;
     let over_limits = state.entries_used > ENTRIES_MOST as u64 || state.pool_used > POOL_MOST as u64;
-    over_slices || over_limits && !cfg!(feature = "mistake_used_limits_unchecked") || state.next > 0x110000
+    over_slices || over_limits || state.next > 0x110000
 }
 
 /// 21 to 24: the line's fields 0, 5 and 14. The others are not looked at.
@@ -91,11 +85,10 @@ fn read_line(line: &[u8]) -> Result<Line, u64> {
     }
     let code_point = read_code_point(fields[0]).ok_or(22_u64)?;
     let parts = read_decomposition(fields[5]).ok_or(23_u64)?;
-    let last = match fields[14] {
-        [before @ .., b'\r'] if cfg!(feature = "mistake_field_14_ends_before_cr") => before,
-        whole => whole,
+    let titlecase = match fields[14] {
+        [] => None,
+        last => Some(read_code_point(last).ok_or(24_u64)?),
     };
-    let titlecase = if last.is_empty() { None } else { Some(read_code_point(last).ok_or(24_u64)?) };
     Ok(Line { code_point, parts, titlecase })
 }
 
@@ -104,7 +97,7 @@ fn read_code_point(field: &[u8]) -> Option<u32> {
     if !(4..=6).contains(&field.len()) {
         return None;
     }
-    if field.len() > 4 && field[0] == b'0' && !cfg!(feature = "mistake_leading_zero_accepted") {
+    if field.len() > 4 && field[0] == b'0' {
         return None;
     }
     let mut number = 0;
@@ -118,7 +111,6 @@ fn read_digit(octet: u8) -> Option<u32> {
     match octet {
         b'0'..=b'9' => Some(u32::from(octet - b'0')),
         b'A'..=b'F' => Some(u32::from(octet - b'A') + 10),
-        b'a'..=b'f' if cfg!(feature = "mistake_small_digits_accepted") => Some(u32::from(octet - b'a') + 10),
         _ => None,
     }
 }
@@ -133,8 +125,7 @@ fn read_decomposition(field: &[u8]) -> Option<Vec<u32>> {
     if is_tag(words[0]) {
         words.remove(0);
     }
-    let most = if cfg!(feature = "mistake_33_parts_accepted") { PARTS_MOST + 1 } else { PARTS_MOST };
-    if words.is_empty() || words.len() > most {
+    if words.is_empty() || words.len() > PARTS_MOST {
         return None;
     }
     words.into_iter().map(read_code_point).collect()
@@ -157,13 +148,10 @@ fn has_room(state: State, said: &Line, entries_length: usize, pool_length: usize
 
 /// Appends the entry and its parts: "code point, titlecase (the code point itself if none), pool start, count".
 fn append(state: State, said: &Line, entries: &mut [u32], pool: &mut [u32]) {
-    if cfg!(feature = "mistake_only_first_line_stored") && state.entries_used > 0 {
-        return;
-    }
-    let none = if cfg!(feature = "mistake_titlecase_0_if_none") { 0 } else { said.code_point };
     let entry_at = state.entries_used as usize * 4;
     let pool_at = state.pool_used as usize;
-    let entry = [said.code_point, said.titlecase.unwrap_or(none), pool_at as u32, said.parts.len() as u32];
+    let titlecase = said.titlecase.unwrap_or(said.code_point);
+    let entry = [said.code_point, titlecase, pool_at as u32, said.parts.len() as u32];
     entries[entry_at..entry_at + 4].copy_from_slice(&entry);
     pool[pool_at..pool_at + said.parts.len()].copy_from_slice(&said.parts);
 }

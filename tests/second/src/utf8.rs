@@ -13,14 +13,9 @@ pub fn decode(text: &[u8]) -> Option<Vec<Character>> {
     let mut characters = Vec::new();
     let mut at = 0;
     while at < text.len() {
-        match decode_one(text, at) {
-            Some(character) => {
-                characters.push(character);
-                at = character.end;
-            }
-            None if cfg!(feature = "mistake_cut_off_end_dropped") && is_cut_off(text, at) => break,
-            None => return None,
-        }
+        let character = decode_one(text, at)?;
+        characters.push(character);
+        at = character.end;
     }
     Some(characters)
 }
@@ -37,7 +32,7 @@ fn decode_one(text: &[u8], start: usize) -> Option<Character> {
         }
         code_point = code_point << 6 | u32::from(tail & 0x3F);
     }
-    let overlong = octets != length(code_point) && !cfg!(feature = "mistake_overlong_accepted");
+    let overlong = octets != length(code_point);
     if overlong || !is_encodable(code_point) {
         return None;
     }
@@ -55,14 +50,9 @@ fn shape(lead: u8) -> Option<(usize, u32)> {
     }
 }
 
-/// Whether the text ends before the character that starts here.
-fn is_cut_off(text: &[u8], start: usize) -> bool {
-    shape(text[start]).is_some_and(|(octets, _)| start + octets > text.len())
-}
-
 fn is_encodable(code_point: u32) -> bool {
-    let surrogate = (0xD800..=0xDFFF).contains(&code_point) && !cfg!(feature = "mistake_surrogate_accepted");
-    let above = code_point > 0x10FFFF && !cfg!(feature = "mistake_above_10ffff_accepted");
+    let surrogate = (0xD800..=0xDFFF).contains(&code_point);
+    let above = code_point > 0x10FFFF;
     !surrogate && !above
 }
 
