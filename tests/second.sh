@@ -48,5 +48,6 @@ case $status in
     0) ;;
     1) fail "the programs differ" ;;
     2) fail "the programs could not be compared" ;;
+    139) fail "something was read or written outside a lent slice (SIGSEGV)" ;;
     *) fail "the comparison broke off with status $status" ;;
 esac

@@ -1,44 +1,94 @@
-//! Memory lent to the library: the slice itself, with guard elements on both sides that must stay.
+//! Memory lent to the library. Every slice is lent in two copies, and every call made on both: one copy begins straight after pages
+//! that can't be touched, the other ends straight before such pages, so that a read or a write beyond either end is found (see `pages`).
+//! On its open side each copy has guard elements that must stay.
 
-/// Elements before and after each lent slice. It is odd, so that lent octets stand at addresses of no alignment.
+use crate::pages::Pages;
+use std::slice::{from_raw_parts, from_raw_parts_mut};
+
+/// Guard elements on the open side of a copy.
 const GUARDS: usize = 29;
 
+/// Where a copy stands within its pages.
+#[derive(Clone, Copy)]
+pub enum Side {
+    Start,
+    End,
+}
+
+pub const SIDES: [Side; 2] = [Side::Start, Side::End];
+
 pub struct Lent<T> {
-    memory: Vec<T>,
+    at_start: Pages,
+    at_end: Pages,
+    length: usize,
     guard: T,
 }
 
 impl<T: Copy + PartialEq> Lent<T> {
     pub fn new(content: &[T], guard: T) -> Lent<T> {
-        let mut memory = vec![guard; GUARDS];
-        memory.extend_from_slice(content);
-        memory.extend(vec![guard; GUARDS]);
-        Lent { memory, guard }
-    }
-
-    pub fn content(&self) -> &[T] {
-        &self.memory[GUARDS..self.memory.len() - GUARDS]
+        let size = (content.len() + GUARDS) * size_of::<T>();
+        let mut lent = Lent { at_start: Pages::take(size), at_end: Pages::take(size), length: content.len(), guard };
+        for side in SIDES {
+            // SAFETY: see `place` and `guards`; nothing else refers to these pages while they are held.
+            unsafe {
+                from_raw_parts_mut(lent.pointer_mut(side), content.len()).copy_from_slice(content);
+                from_raw_parts_mut(lent.guards(side), GUARDS).fill(guard);
+            }
+        }
+        lent
     }
 
     pub fn length(&self) -> usize {
-        self.memory.len() - 2 * GUARDS
+        self.length
     }
 
-    pub fn pointer(&self) -> *const T {
-        self.content().as_ptr()
+    pub fn pointer(&self, side: Side) -> *const T {
+        self.place(side)
     }
 
-    pub fn pointer_mut(&mut self) -> *mut T {
-        self.memory[GUARDS..].as_mut_ptr()
+    pub fn pointer_mut(&mut self, side: Side) -> *mut T {
+        self.place(side)
+    }
+
+    /// What the first copy holds.
+    pub fn content(&self) -> &[T] {
+        self.copy(Side::Start)
+    }
+
+    /// Whether all guards stayed and both copies hold the same.
+    pub fn agrees(&self) -> bool {
+        self.still_holds(self.copy(Side::Start))
+    }
+
+    /// Whether all guards stayed and both copies hold `content`.
+    pub fn still_holds(&self, content: &[T]) -> bool {
+        self.guards_stay() && SIDES.iter().all(|&side| self.copy(side) == content)
     }
 
     pub fn guards_stay(&self) -> bool {
-        let (before, after) = (&self.memory[..GUARDS], &self.memory[self.memory.len() - GUARDS..]);
-        before.iter().chain(after).all(|&element| element == self.guard)
+        // SAFETY: `new` has written so many elements there.
+        let stay = |side| unsafe { from_raw_parts(self.guards(side), GUARDS) }.iter().all(|&element| element == self.guard);
+        SIDES.into_iter().all(stay)
     }
 
-    /// Whether the slice still holds `content`, between guards that stayed.
-    pub fn still_holds(&self, content: &[T]) -> bool {
-        self.content() == content && self.guards_stay()
+    fn copy(&self, side: Side) -> &[T] {
+        // SAFETY: `new` has written so many elements there.
+        unsafe { from_raw_parts(self.place(side), self.length) }
+    }
+
+    /// The first element of a copy. The pages have room for it and its guards; they begin and end at multiples of every alignment.
+    fn place(&self, side: Side) -> *mut T {
+        match side {
+            Side::Start => self.at_start.start().cast(),
+            Side::End => self.at_end.end().cast::<T>().wrapping_sub(self.length),
+        }
+    }
+
+    /// The first guard element of a copy.
+    fn guards(&self, side: Side) -> *mut T {
+        match side {
+            Side::Start => self.place(side).wrapping_add(self.length),
+            Side::End => self.place(side).wrapping_sub(GUARDS),
+        }
     }
 }

@@ -1,14 +1,13 @@
-//! The C calls of the proved library, made on guarded memory.
+//! The C calls of the proved library, each made on both copies of its guarded memory. The answers must be the same.
 
 use crate::abi::{mz_add_line, mz_check_table, Comparing, Preparing};
-use crate::lent::Lent;
+use crate::lent::{Lent, SIDES};
 use second::unicode_data::State;
 
-/// The answer row before a call: each call must write the whole of it, and nothing after it.
+/// The answer row before a call: each call must write the whole of it.
 const ROW_UNWRITTEN: u64 = 0xA5A5_5A5A_C3C3_3C3C;
 const OCTET_GUARD: u8 = 0x9D;
 const NUMBER_GUARD: u32 = 0x9D9D_9D9D;
-pub const ROW_MOST: usize = 8;
 
 /// A table lent to the library for many calls.
 pub struct LentTable {
@@ -25,58 +24,67 @@ impl LentTable {
         self.entries.still_holds(entries) && self.pool.still_holds(pool)
     }
 
+    fn guards_stay(&self) -> bool {
+        self.entries.guards_stay() && self.pool.guards_stay()
+    }
+
     pub fn check(&self) -> Result<[u64; 3], String> {
-        let mut answer = new_row();
-        unsafe {
-            mz_check_table(
-                self.entries.pointer(),
-                self.entries.length(),
-                self.pool.pointer(),
-                self.pool.length(),
-                answer.pointer_mut().cast(),
-            );
+        let mut answer = new_row::<3>();
+        for side in SIDES {
+            // SAFETY: each pointer is that of a lent slice of the length after it.
+            unsafe {
+                mz_check_table(
+                    self.entries.pointer(side),
+                    self.entries.length(),
+                    self.pool.pointer(side),
+                    self.pool.length(),
+                    answer.pointer_mut(side).cast(),
+                );
+            }
         }
-        row::<3>(&answer)
+        row(&answer)
     }
 }
 
-fn new_row() -> Lent<u64> {
-    Lent::new(&[ROW_UNWRITTEN; ROW_MOST], ROW_UNWRITTEN)
+fn new_row<const N: usize>() -> Lent<u64> {
+    Lent::new(&[ROW_UNWRITTEN; N], ROW_UNWRITTEN)
 }
 
-/// The first N numbers of a row; those after them must not be written.
+/// The answer of a call to both copies.
 fn row<const N: usize>(answer: &Lent<u64>) -> Result<[u64; N], String> {
-    let (written, rest) = answer.content().split_at(N);
-    if !answer.guards_stay() || rest.iter().any(|&number| number != ROW_UNWRITTEN) {
-        return Err("the library wrote outside its answer row".to_string());
+    if !answer.agrees() {
+        return Err("the library wrote outside its answer row, or answered both copies differently".to_string());
     }
-    Ok(written.try_into().expect("split at N"))
+    Ok(answer.content().try_into().expect("a row of N numbers"))
 }
 
 /// Prepares one text; the buffer is filled from `buffer` before and copied back after.
 pub fn prepare(call: Preparing, collation: u32, text: &[u8], table: &LentTable, buffer: &mut [u8]) -> Result<[u64; 7], String> {
     let lent_text = Lent::new(text, OCTET_GUARD);
     let mut key = Lent::new(buffer, OCTET_GUARD);
-    let mut answer = new_row();
-    unsafe {
-        call(
-            collation,
-            lent_text.pointer(),
-            lent_text.length(),
-            table.entries.pointer(),
-            table.entries.length(),
-            table.pool.pointer(),
-            table.pool.length(),
-            key.pointer_mut(),
-            key.length(),
-            answer.pointer_mut().cast(),
-        );
+    let mut answer = new_row::<7>();
+    for side in SIDES {
+        // SAFETY: each pointer is that of a lent slice of the length after it.
+        unsafe {
+            call(
+                collation,
+                lent_text.pointer(side),
+                lent_text.length(),
+                table.entries.pointer(side),
+                table.entries.length(),
+                table.pool.pointer(side),
+                table.pool.length(),
+                key.pointer_mut(side),
+                key.length(),
+                answer.pointer_mut(side).cast(),
+            );
+        }
     }
-    if !lent_text.still_holds(text) || !key.guards_stay() {
-        return Err("the library changed its text or wrote outside its key buffer".to_string());
+    if !lent_text.still_holds(text) || !key.agrees() {
+        return Err("the library changed its text, wrote outside its key buffer or left two keys".to_string());
     }
     buffer.copy_from_slice(key.content());
-    row::<7>(&answer)
+    row(&answer)
 }
 
 /// Makes one of the comparing calls; both buffers are filled from the arguments before and copied back after.
@@ -91,57 +99,63 @@ pub fn compare<const N: usize>(
     let lent_second = Lent::new(second, OCTET_GUARD);
     let mut first_key = Lent::new(first_buffer, OCTET_GUARD);
     let mut second_key = Lent::new(second_buffer, OCTET_GUARD);
-    let mut answer = new_row();
-    unsafe {
-        call(
-            collation,
-            lent_first.pointer(),
-            lent_first.length(),
-            lent_second.pointer(),
-            lent_second.length(),
-            table.entries.pointer(),
-            table.entries.length(),
-            table.pool.pointer(),
-            table.pool.length(),
-            first_key.pointer_mut(),
-            first_key.length(),
-            second_key.pointer_mut(),
-            second_key.length(),
-            answer.pointer_mut().cast(),
-        );
+    let mut answer = new_row::<N>();
+    for side in SIDES {
+        // SAFETY: each pointer is that of a lent slice of the length after it.
+        unsafe {
+            call(
+                collation,
+                lent_first.pointer(side),
+                lent_first.length(),
+                lent_second.pointer(side),
+                lent_second.length(),
+                table.entries.pointer(side),
+                table.entries.length(),
+                table.pool.pointer(side),
+                table.pool.length(),
+                first_key.pointer_mut(side),
+                first_key.length(),
+                second_key.pointer_mut(side),
+                second_key.length(),
+                answer.pointer_mut(side).cast(),
+            );
+        }
     }
     if !lent_first.still_holds(first) || !lent_second.still_holds(second) {
         return Err("the library changed a text".to_string());
     }
-    if !first_key.guards_stay() || !second_key.guards_stay() {
-        return Err("the library wrote outside a key buffer".to_string());
+    if !first_key.agrees() || !second_key.agrees() {
+        return Err("the library wrote outside a key buffer or left two keys".to_string());
     }
     first_buffer.copy_from_slice(first_key.content());
     second_buffer.copy_from_slice(second_key.content());
-    row::<N>(&answer)
+    row(&answer)
 }
 
 /// Adds one line to the slices that are lent for building.
 pub fn add_line(state: State, line: &[u8], table: &mut LentTable) -> Result<[u64; 6], String> {
     let lent_line = Lent::new(line, OCTET_GUARD);
-    let mut answer = new_row();
+    let mut answer = new_row::<6>();
     let (entries_length, pool_length) = (table.entries.length(), table.pool.length());
-    unsafe {
-        mz_add_line(
-            state.entries_used,
-            state.pool_used,
-            state.next,
-            lent_line.pointer(),
-            lent_line.length(),
-            table.entries.pointer_mut(),
-            entries_length,
-            table.pool.pointer_mut(),
-            pool_length,
-            answer.pointer_mut().cast(),
-        );
+    for side in SIDES {
+        // SAFETY: each pointer is that of a lent slice of the length after it.
+        unsafe {
+            mz_add_line(
+                state.entries_used,
+                state.pool_used,
+                state.next,
+                lent_line.pointer(side),
+                lent_line.length(),
+                table.entries.pointer_mut(side),
+                entries_length,
+                table.pool.pointer_mut(side),
+                pool_length,
+                answer.pointer_mut(side).cast(),
+            );
+        }
     }
-    if !lent_line.still_holds(line) || !table.entries.guards_stay() || !table.pool.guards_stay() {
+    if !lent_line.still_holds(line) || !table.guards_stay() {
         return Err("the library changed its line or wrote outside a slice".to_string());
     }
-    row::<6>(&answer)
+    row(&answer)
 }

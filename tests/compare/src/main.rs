@@ -2,7 +2,7 @@
 //!
 //! One line for each part with its number of cases. Exit status 1 and the first difference on standard output: both answers, and the
 //! inputs in hex. Exit status 2 and a message on standard error if the comparison can't be made: a file or a setting is at fault, or a
-//! part would run no case.
+//! part would run no case. A read or write outside a lent slice ends the process by SIGSEGV (see `pages`).
 //!
 //! Variables: MZ_SEED and MZ_CASES (the random part), MZ_UNICODE_DATA and MZ_NFKD (files of part 2), UTF8_TEST (the published
 //! stress test, if it is at hand), MZ_SHORT=yes (part 2 without the scalar code points and NFKD, fewer cases in 3 and 4),
@@ -21,6 +21,7 @@ mod lent;
 mod library;
 mod lines;
 mod made;
+mod pages;
 mod published;
 mod random;
 mod settings;
@@ -63,6 +64,7 @@ fn chosen(numbers: &str) -> Result<Vec<&'static Part>, Stop> {
 
 fn run_parts() -> Result<(), Stop> {
     abi::check_interface();
+    pages::check_guards()?;
     let settings = Settings::read()?;
     let parts = chosen(&settings.parts)?;
     println!("seed {}, {} random cases", settings.seed, settings.cases);
@@ -78,6 +80,13 @@ fn run_parts() -> Result<(), Stop> {
 
 /// Levels are found by recursion, as they are defined, and a hostile chain has 16,384 of them: the work runs on a deep stack.
 fn main() -> ExitCode {
+    let arguments: Vec<String> = std::env::args().skip(1).collect();
+    if let [task, side] = &arguments[..] {
+        if task == pages::READ_BEYOND {
+            pages::read_beyond(side);
+            return ExitCode::SUCCESS;
+        }
+    }
     let worker = std::thread::Builder::new().stack_size(256 << 20).spawn(run_parts);
     match worker.expect("a thread").join() {
         Ok(Ok(())) => ExitCode::SUCCESS,
