@@ -3,6 +3,7 @@
 # The last line of `rt ci` is held back and printed last, only if everything passed.
 set -u
 cd "$(dirname "$0")/.." || exit 1
+export MZ_INSTALL="${MZ_INSTALL:-yes}" # what a test misses of Debian's packages is named and installed; MZ_INSTALL=no forbids it
 failed=0
 fail() {
     printf 'FAILED: %s\n' "$1" >&2
@@ -21,6 +22,7 @@ bash tests/library.sh || fail 'tests/library.sh: the library does not answer C o
 bash tests/pairs.sh || fail 'tests/pairs.sh: the program pairs does not print what it should'
 bash tests/second.sh || fail 'tests/second.sh: the library and the second program differ, or could not be compared'
 bash tests/published.sh || fail 'tests/published.sh: the rows of crates/published are not those of the published file'
+bash tests/fuzz.sh || fail 'tests/fuzz.sh: the fuzzer found a fault, or could not run'
 bash tests/mistakes.sh || fail 'tests/mistakes.sh: a planted mistake was not found'
 
 [ "$failed" -eq 0 ] || exit 1

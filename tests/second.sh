@@ -6,6 +6,8 @@
 # UTF-8-test.txt, whose lines are then compared too. MZ_SEED and MZ_CASES set the random part. Whatever is missing is a failure.
 set -euo pipefail
 cd "$(dirname "$0")/.."
+# shellcheck source=tests/packages.sh
+. tests/packages.sh
 
 readonly EDITION=806e9aed65037197f1ec85e12be6e8cd870fc5608b4de0fffd990f689f376a73
 export MZ_UNICODE_DATA="${MZ_UNICODE_DATA:-/usr/share/unicode/UnicodeData.txt}"
@@ -23,13 +25,10 @@ need() {
     command -v "$1" > /dev/null || fail "$1 is missing"
 }
 
-# The published file comes with a package; a machine without it gets the package.
+# The published file comes with a package.
 fetch_unicode_data() {
     [ -f "$MZ_UNICODE_DATA" ] && return
-    echo "second: $MZ_UNICODE_DATA is missing, installing the package unicode-data"
-    need apt-get
-    apt-get install -y unicode-data || { apt-get update && apt-get install -y unicode-data; } \
-        || fail "unicode-data can't be installed"
+    need_packages "$MZ_UNICODE_DATA" unicode-data || fail "no UnicodeData.txt"
     [ -f "$MZ_UNICODE_DATA" ] || fail "$MZ_UNICODE_DATA is still missing"
 }
 

@@ -1,0 +1,47 @@
+/* What the fuzzer gives, cut into the arguments of calls.
+ *
+ * Octet 0 says what the rest is: 0 modulo 4 lines of UnicodeData.txt (lines.c), else texts over a table (texts.c). Whatever the octets
+ * are, they are some case; what is left out at the end counts as 0.
+ *
+ * NUMBERS of a table are one octet each: below 80 hex the number itself; 80 to BF the marks 0300 to 033F; C0 to EF the code point of an
+ * entry (C0 the first); F0 and two octets; F1 and four octets; F2 to FF numbers at which some rule changes.
+ *
+ * TEXTS are a length and so many octets; a length of F0 hex or more stands for 4,088 to 4,103 octets, which repeat the next 8.
+ *
+ * Of the stored inputs (corpus), those with a name were written by hand; each found_NN, which libFuzzer found, raises some counter that no
+ * other input does. */
+#ifndef INPUT_H
+#define INPUT_H
+
+#include <stddef.h>
+#include <stdint.h>
+
+#define TEXT_ROOM 8192    /* octets that a text of a case may have */
+#define ENTRIES_ROOM 1024 /* numbers of entries that a table of a case may have */
+#define POOL_ROOM 8192    /* numbers of its pool */
+
+struct input {
+    const uint8_t *at;
+    size_t left;
+};
+
+struct text {
+    uint8_t octets[TEXT_ROOM];
+    size_t length;
+};
+
+struct table {
+    uint32_t entries[ENTRIES_ROOM];
+    size_t entries_length;
+    uint32_t pool[POOL_ROOM];
+    size_t pool_length;
+};
+
+uint8_t take_octet(struct input *input);
+
+void take_text(struct input *input, struct text *text);
+
+/* A table: empty, table T of document 01, one that is laid out as it should be, or any numbers. */
+void take_table(struct input *input, struct table *table);
+
+#endif
