@@ -1,30 +1,43 @@
-# make test: prove every crate, try every must-fail edit, run every program and test. Its last line is `N passed, 0 failed`
-# when all is well, and never otherwise.
-# make lib: prove the crates of the C interface, and leave them as one library for C and Rust in build/lib.
-# make pairs: prove and build the program `pairs`, and run it on the sample.
-# make bench: names and the search beside other programs, in one run.
-.PHONY: test lib pairs bench
+# The lines of `make help` are the comments after ## below.
+.DEFAULT_GOAL := help
+.PHONY: help pairs lib check test bench clean
+CRATE ?=
+export CRATE
+CRATES := sed -n 's/^\([a-z0-9_]*\):.*/\1/p' crates.txt
 
-test:
-	@bash tests/run.sh
+help: ## print these lines
+	@sed -n 's/^\([a-z]*\):.*## \(.*\)/make \1\t\2/p' Makefile | expand -t 12
 
-lib:
+pairs: ## prove and build the program `pairs`, and run it on the sample
+	@mkdir -p build
+	@echo 'proving and building pairs (a few minutes the first time; build/pairs.log says more)'
+	@rt check pairs > build/pairs.log 2>&1 || { tail -n 20 build/pairs.log; exit 1; }
+	@cd sample && ../target/bin/pairs < storms.txt
+
+lib: ## prove the library, and leave it for C and Rust in build/lib
 	@mkdir -p build/lib
 	@echo 'proving and building the library (a few minutes the first time; build/lib.log says more)'
 	@rt staticlib mz_tables > build/lib.log 2>&1 && rt staticlib mz_texts >> build/lib.log 2>&1 || { tail -n 20 build/lib.log; exit 1; }
 	@bash bindings/join.sh mz_tables mz_texts
 	@echo 'build/lib/libmundeziwa.a and build/lib/libmundeziwa.so; the headers are in include, the Rust crate is bindings/rust'
 
-pairs:
-	@mkdir -p build
-	@echo 'proving and building pairs (a few minutes the first time; build/pairs.log says more)'
-	@rt check pairs > build/pairs.log 2>&1 || { tail -n 20 build/pairs.log; exit 1; }
-	@cd sample && ../target/bin/pairs < storms.txt
+check: ## with CRATE=name: prove that crate and those that it needs
+	@[ -n "$$CRATE" ] || { echo 'say which crate: make check CRATE=utf8 (crates.txt names them)' >&2; exit 2; }
+	@$(CRATES) | grep -qxF "$$CRATE" || { echo "crates.txt has no crate $$CRATE; it has:" $$($(CRATES)) >&2; exit 2; }
+	@rt check "$$CRATE"
 
-bench: lib
+test: ## prove every crate, try every must-fail edit, run every program and test; ends with `N passed, 0 failed`
+	@[ -f "$${MZ_UNICODE_DATA:-/usr/share/unicode/UnicodeData.txt}" ] || echo 'UnicodeData.txt is missing:' \
+	    'the package unicode-data will be installed (stop here and name the file with MZ_UNICODE_DATA, and nothing is installed)'
+	@bash tests/run.sh
+
+bench: lib ## names and the search beside other programs, in one run
 	@mkdir -p build/bench
 	@rt staticlib bench_find > build/bench/bench_find.log 2>&1 || { tail -n 20 build/bench/bench_find.log; exit 1; }
 	@bash bench/build.sh
 	@./build/bench/occurrence
 	@echo
 	@./build/bench/names
+
+clean: ## remove all that the others make: target, build, and the cargo folders
+	@rm -rf target build bindings/rust/target tests/*/target bench/*/target
