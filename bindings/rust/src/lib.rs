@@ -1,14 +1,18 @@
 //! Names compared under the collations of RFC 4790 and RFC 5051: `i;octet`, `i;ascii-casemap` and `i;unicode-casemap`.
 //!
 //! The work is done by a library whose every function is proved to meet its contract; this crate checks a mapping table once,
-//! keeps it borrowed, and calls that library. Nothing here panics on any input, and nothing is `unsafe` to call. (A library of another
-//! interface than this crate was written for, linked by mistake, stops the program at the first table or builder, with both numbers.)
+//! keeps it where nobody can change it, and calls that library. Nothing here panics on any input, and nothing is `unsafe` to call. (A
+//! library of another interface than this crate was written for, linked by mistake, stops the program at the first table or builder,
+//! with both numbers.)
+//!
+//! Each text has a **key**, and texts are compared by their keys alone. Texts and lines are anything that is octets: `&str`, `String`,
+//! `&[u8]`, `Vec<u8>`. The numbers of refusals are those of document 01, which is docs/SCOPE.md of the repository.
 //!
 //! ```
 //! use mundeziwa::{Collation, TableBuilder};
 //! use std::cmp::Ordering;
 //!
-//! // Lines of UnicodeData.txt; a program reads the whole file with `TableBuilder::read`.
+//! // Lines of UnicodeData.txt; a program reads the whole file with `TableBuilder::read_whole`.
 //! let mut builder = TableBuilder::new();
 //! builder.line("0065;LATIN SMALL LETTER E;Ll;0;L;;;;;N;;;0045;;0045")?;
 //! builder.line("00C9;LATIN CAPITAL LETTER E WITH ACUTE;Lu;0;L;0045 0301;;;;N;;;;00E9;")?;
@@ -21,13 +25,14 @@
 //! assert_eq!(table.order(unicode, "E", "é")?, Ordering::Less);
 //!
 //! // A name with a broken octet stays broken, and compares as octets.
-//! assert!(!table.equal(unicode, b"\xC3".as_slice(), "é")?);
+//! assert!(!table.equal(unicode, b"\xC3", "é")?);
 //!
 //! // A hit never cuts a letter in half.
 //! let hit = table.find(unicode, "\u{301}", "Eé")?.expect("the accent is there");
 //! assert_eq!(hit.text, 1..3);
 //! # Ok::<(), mundeziwa::Refusal>(())
 //! ```
+#![warn(missing_docs)]
 
 mod builder;
 mod ffi;
@@ -35,10 +40,20 @@ mod refusal;
 mod table;
 
 pub use builder::{ReadError, TableBuilder};
-pub use refusal::Refusal;
+pub use refusal::{Refusal, RefusalKind};
 pub use table::{Hit, Prepared, Table};
 
-/// A collation, by its number in the scope paper.
+/// A collation, by its number in document 01.
+///
+/// ```
+/// use mundeziwa::{Collation, Table};
+///
+/// let table = Table::empty();
+/// assert!(!table.equal(Collation::Octet, "Beryl", "BERYL")?);
+/// assert!(table.equal(Collation::AsciiCasemap, "Beryl", "BERYL")?);
+/// assert_eq!(Collation::UnicodeCasemap as u32, 3);
+/// # Ok::<(), mundeziwa::Refusal>(())
+/// ```
 #[derive(Clone, Copy, Debug, PartialEq, Eq, Hash)]
 pub enum Collation {
     /// `i;octet`: a text is its own key.

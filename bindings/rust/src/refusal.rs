@@ -1,7 +1,108 @@
 //! Why a call was refused.
 use std::fmt;
 
-/// Why a call was refused: the number of the scope paper, which text it speaks of, and its detail.
+/// Writes the enum of refusals with its numbers and names, a row each, so that the three can't part.
+macro_rules! refusal_kinds {
+    ($($(#[$meaning:meta])* $kind:ident = $number:literal, $name:literal;)*) => {
+        /// What was wrong, by the numbers of document 01 (docs/SCOPE.md). Later versions of the library may add to them.
+        ///
+        /// ```
+        /// use mundeziwa::{Collation, RefusalKind, Table};
+        ///
+        /// let refusal = Table::empty().equal(Collation::Octet, [0; 4097], "Irene").unwrap_err();
+        /// assert_eq!(refusal.kind(), RefusalKind::TextTooLong);
+        /// assert_eq!(refusal.kind().number(), 2);
+        /// ```
+        #[derive(Clone, Copy, Debug, PartialEq, Eq, Hash)]
+        #[non_exhaustive]
+        pub enum RefusalKind {
+            $($(#[$meaning])* $kind,)*
+            /// A number that this crate has no name for.
+            Unknown(u64),
+        }
+
+        impl RefusalKind {
+            /// The number in document 01.
+            ///
+            /// ```
+            /// assert_eq!(mundeziwa::RefusalKind::NoLevel.number(), 7);
+            /// ```
+            pub fn number(self) -> u64 {
+                match self {
+                    $(RefusalKind::$kind => $number,)*
+                    RefusalKind::Unknown(number) => number,
+                }
+            }
+
+            /// A short name.
+            ///
+            /// ```
+            /// assert_eq!(mundeziwa::RefusalKind::NoLevel.name(), "no level");
+            /// ```
+            pub fn name(self) -> &'static str {
+                match self {
+                    $(RefusalKind::$kind => $name,)*
+                    RefusalKind::Unknown(_) => "unknown refusal",
+                }
+            }
+        }
+
+        /// The refusal with a number, as the C interface answers it.
+        ///
+        /// ```
+        /// assert_eq!(mundeziwa::RefusalKind::from(7), mundeziwa::RefusalKind::NoLevel);
+        /// ```
+        impl From<u64> for RefusalKind {
+            fn from(number: u64) -> RefusalKind {
+                match number {
+                    $($number => RefusalKind::$kind,)*
+                    _ => RefusalKind::Unknown(number),
+                }
+            }
+        }
+    };
+}
+
+refusal_kinds! {
+    /// The number is no collation's. [`Collation`](crate::Collation) has no such number, so no call of this crate answers it.
+    UnknownCollation = 1, "unknown collation";
+    /// A text is over 4,096 octets.
+    TextTooLong = 2, "text too long";
+    /// The entries are not whole or too many, or the pool is too long.
+    TableSize = 3, "table size";
+    /// An entry's code point or titlecase is no Unicode scalar value, or the entries do not ascend.
+    CodePoint = 4, "code point";
+    /// An entry has a count over 32, a wrong start, parts past the pool's end, or says nothing; or the pool is too long.
+    Entry = 5, "entry";
+    /// A number of the pool is no Unicode scalar value.
+    PoolNumber = 6, "pool number";
+    /// A code point does not unfold within 8 levels into at most 32 code points.
+    NoLevel = 7, "no level";
+    /// A key is longer than the buffer lent for it.
+    KeyRoom = 8, "key buffer too short";
+    /// A line without a tab: the program `pairs` alone answers it.
+    NoTab = 9, "no tab";
+    /// A data line is over 512 octets.
+    LineTooLong = 20, "line too long";
+    /// A data line has not exactly 14 semicolons.
+    FieldCount = 21, "field count";
+    /// Field 0, the code point, is malformed.
+    Field0 = 22, "field 0";
+    /// Field 5, the decomposition, is malformed.
+    Field5 = 23, "field 5";
+    /// Field 14, the titlecase, is malformed.
+    Field14 = 24, "field 14";
+    /// A data line with a mapping has a surrogate in field 0, 5 or 14.
+    Surrogate = 25, "surrogate";
+    /// A data line's code point is not above that of the line before.
+    LineOrder = 26, "order of lines";
+    /// The table has no room for the line's entry or its parts.
+    NoRoom = 27, "no room";
+    /// A builder's state that no line can have left. [`TableBuilder`](crate::TableBuilder) never has one.
+    State = 28, "impossible state";
+}
+
+/// Why a call was refused: what was wrong, which text it speaks of, and a detail. Both `{}` and `{:?}` print the sentence.
 ///
 /// ```
 /// use mundeziwa::Table;
@@ -10,14 +111,13 @@ use std::fmt;
 /// let refusal = Table::new(&[0x41, 0x41, 0, 1], &[0x41]).unwrap_err();
 /// assert_eq!(refusal.number(), 7);
 /// assert_eq!(refusal.name(), "no level");
-/// assert_eq!(
-///     refusal.to_string(),
-///     "refused 7 (no level): entry 0 does not unfold within 8 levels into at most 32 code points"
-/// );
+/// let sentence = "refused 7 (no level): entry 0 does not unfold within 8 levels into at most 32 code points";
+/// assert_eq!(refusal.to_string(), sentence);
+/// assert_eq!(format!("{refusal:?}"), sentence);
 /// ```
-#[derive(Clone, Copy, Debug, PartialEq, Eq, Hash)]
+#[derive(Clone, Copy, PartialEq, Eq, Hash)]
 pub struct Refusal {
-    number: u64,
+    kind: RefusalKind,
     place: u64,
     detail: u64,
 }
@@ -27,47 +127,64 @@ impl Refusal {
     pub(crate) fn of(row: &[u64]) -> Result<(), Refusal> {
         match row[0] {
             0 => Ok(()),
-            number => Err(Refusal { number, place: row[1], detail: row[2] }),
+            number => Err(Refusal { kind: number.into(), place: row[1], detail: row[2] }),
         }
     }
 
-    /// The number in the scope paper's table of refusals.
+    /// What was wrong.
+    ///
+    /// ```
+    /// use mundeziwa::{RefusalKind, TableBuilder};
+    ///
+    /// let refusal = TableBuilder::new().line("no line of the file").unwrap_err();
+    /// assert_eq!(refusal.kind(), RefusalKind::FieldCount);
+    /// ```
+    pub fn kind(&self) -> RefusalKind {
+        self.kind
+    }
+
+    /// The number in document 01 of what was wrong.
+    ///
+    /// ```
+    /// let refusal = mundeziwa::TableBuilder::new().line("no line of the file").unwrap_err();
+    /// assert_eq!(refusal.number(), 21);
+    /// ```
     pub fn number(&self) -> u64 {
-        self.number
+        self.kind.number()
+    }
+
+    /// A short name of what was wrong.
+    ///
+    /// ```
+    /// let refusal = mundeziwa::TableBuilder::new().line("no line of the file").unwrap_err();
+    /// assert_eq!(refusal.name(), "field count");
+    /// ```
+    pub fn name(&self) -> &'static str {
+        self.kind.name()
     }
 
     /// Which text the refusal speaks of: 1 or 2 (a lone text is 1), 0 if of neither.
+    ///
+    /// ```
+    /// use mundeziwa::{Collation, Table};
+    ///
+    /// let refusal = Table::empty().order(Collation::Octet, "Irene", [0; 4097]).unwrap_err();
+    /// assert_eq!(refusal.place(), 2);
+    /// ```
     pub fn place(&self) -> u64 {
         self.place
     }
 
     /// A length, an entry or an index, as the sentence says; 0 if there is none.
+    ///
+    /// ```
+    /// use mundeziwa::{Collation, Table};
+    ///
+    /// let refusal = Table::empty().order(Collation::Octet, "Irene", [0; 4097]).unwrap_err();
+    /// assert_eq!(refusal.detail(), 4097);
+    /// ```
     pub fn detail(&self) -> u64 {
         self.detail
-    }
-
-    /// A short name.
-    pub fn name(&self) -> &'static str {
-        match self.number {
-            1 => "unknown collation",
-            2 => "text too long",
-            3 => "table size",
-            4 => "code point",
-            5 => "entry",
-            6 => "pool number",
-            7 => "no level",
-            8 => "key buffer too short",
-            20 => "line too long",
-            21 => "field count",
-            22 => "field 0",
-            23 => "field 5",
-            24 => "field 14",
-            25 => "surrogate",
-            26 => "order of lines",
-            27 => "no room",
-            28 => "impossible state",
-            _ => "unknown refusal",
-        }
     }
 
     fn text(&self) -> &'static str {
@@ -80,28 +197,40 @@ impl Refusal {
 
 impl fmt::Display for Refusal {
     fn fmt(&self, f: &mut fmt::Formatter<'_>) -> fmt::Result {
-        write!(f, "refused {} ({}): ", self.number, self.name())?;
+        use RefusalKind::*;
+        write!(f, "refused {} ({}): ", self.number(), self.name())?;
         let detail = self.detail;
-        match self.number {
-            1 => write!(f, "the collation is not 1, 2 or 3"),
-            2 => write!(f, "{} has {detail} octets, and at most 4,096 are taken", self.text()),
-            3 => write!(f, "the entries are no multiple of 4 numbers, over 16,384, or the pool has over 65,536 numbers"),
-            4 => write!(f, "entry {detail} has a code point or titlecase that is not scalar, or is not above the entry before"),
-            5 => write!(f, "entry {detail} is faulty or, if there is none with that number, the pool is longer than all counts"),
-            6 => write!(f, "pool number {detail} is not scalar"),
-            7 => write!(f, "entry {detail} does not unfold within 8 levels into at most 32 code points"),
-            8 => write!(f, "the key of {} needs a buffer of {detail} octets", self.text()),
-            20 => write!(f, "the line has over 512 octets"),
-            21 => write!(f, "the line has not exactly 14 semicolons"),
-            22 => write!(f, "field 0 is no code point of 4 to 6 digits"),
-            23 => write!(f, "field 5 is no decomposition of 1 to 32 code points"),
-            24 => write!(f, "field 14 is no code point of 4 to 6 digits"),
-            25 => write!(f, "a line with a mapping has a surrogate in field 0, 5 or 14"),
-            26 => write!(f, "the code point is not above that of the line before"),
-            27 => write!(f, "the table has no room for the entry or its parts"),
-            28 => write!(f, "no line can have left this state"),
-            _ => write!(f, "place {}, detail {detail}", self.place),
+        match self.kind {
+            UnknownCollation => write!(f, "the collation is not 1, 2 or 3"),
+            TextTooLong => write!(f, "{} has {detail} octets, and at most 4,096 are taken", self.text()),
+            TableSize => write!(f, "the entries are no multiple of 4 numbers, over 16,384, or the pool has over 65,536 numbers"),
+            CodePoint => {
+                write!(f, "entry {detail} has a code point or titlecase that is not scalar, or is not above the entry before")
+            }
+            Entry => {
+                write!(f, "entry {detail} is faulty or, if there is none with that number, the pool is longer than all counts")
+            }
+            PoolNumber => write!(f, "pool number {detail} is not scalar"),
+            NoLevel => write!(f, "entry {detail} does not unfold within 8 levels into at most 32 code points"),
+            KeyRoom => write!(f, "the key of {} needs a buffer of {detail} octets", self.text()),
+            NoTab => write!(f, "the line has no tab"),
+            LineTooLong => write!(f, "the line has over 512 octets"),
+            FieldCount => write!(f, "the line has not exactly 14 semicolons"),
+            Field0 => write!(f, "field 0 is no code point of 4 to 6 digits"),
+            Field5 => write!(f, "field 5 is no decomposition of 1 to 32 code points"),
+            Field14 => write!(f, "field 14 is no code point of 4 to 6 digits"),
+            Surrogate => write!(f, "a line with a mapping has a surrogate in field 0, 5 or 14"),
+            LineOrder => write!(f, "the code point is not above that of the line before"),
+            NoRoom => write!(f, "the table has no room for the entry or its parts"),
+            State => write!(f, "no line can have left this state"),
+            Unknown(_) => write!(f, "place {}, detail {detail}", self.place),
         }
+    }
+}
+
+impl fmt::Debug for Refusal {
+    fn fmt(&self, f: &mut fmt::Formatter<'_>) -> fmt::Result {
+        fmt::Display::fmt(self, f)
     }
 }
 

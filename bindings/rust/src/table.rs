@@ -1,25 +1,47 @@
 //! A checked table, and the calls that compare texts over it.
 use crate::ffi;
 use crate::{Collation, Refusal, KEY_PER_OCTET_MOST, TEXT_MOST};
-use std::cell::RefCell;
+use std::borrow::Cow;
+use std::cell::Cell;
 use std::cmp::Ordering;
+use std::fmt;
 use std::ops::Range;
 
-/// A mapping table that was checked and accepted. It borrows its two slices, so that nobody can change them while it is in use: this is
-/// what the calls of include/mundeziwa_accepted.h ask for, and the crate makes them over such a table alone.
+/// A mapping table that was checked and accepted. It owns its two slices, or borrows them for ever, so that nobody can change them: this
+/// is what the calls of include/mundeziwa_accepted.h ask for, and the crate makes them over such a table alone.
+///
+/// A struct may hold it, and any number of threads may use it at once. The comparing calls keep two key buffers for each thread, which
+/// grow to 128 times the longest text seen (1 MiB at most for both) and are freed with the thread.
 ///
 /// ```
-/// use mundeziwa::{Collation, Table};
+/// use mundeziwa::{Collation, Refusal, Table};
+///
+/// struct Roster {
+///     table: Table,
+///     names: Vec<String>,
+/// }
+///
+/// impl Roster {
+///     fn holds(&self, name: &str) -> Result<bool, Refusal> {
+///         for known in &self.names {
+///             if self.table.equal(Collation::UnicodeCasemap, known, name)? {
+///                 return Ok(true);
+///             }
+///         }
+///         Ok(false)
+///     }
+/// }
 ///
 /// // One entry: é, titlecase itself, two code points from the pool's start on.
-/// let table = Table::new(&[0xE9, 0xE9, 0, 2], &[0x65, 0x301])?;
-/// assert!(table.equal(Collation::UnicodeCasemap, "é", "e\u{301}")?);
-/// # Ok::<(), mundeziwa::Refusal>(())
+/// let table = Table::new(vec![0xE9, 0xE9, 0, 2], vec![0x65, 0x301])?;
+/// let roster = Roster { table, names: vec!["José".into()] };
+/// assert!(roster.holds("Jose\u{301}")?);
+/// # Ok::<(), Refusal>(())
 /// ```
-#[derive(Clone, Copy, Debug)]
-pub struct Table<'a> {
-    entries: &'a [u32],
-    pool: &'a [u32],
+#[derive(Clone)]
+pub struct Table {
+    entries: Cow<'static, [u32]>,
+    pool: Cow<'static, [u32]>,
 }
 
 /// A prepared text.
@@ -38,7 +60,8 @@ pub struct Prepared<'k> {
 pub struct Hit {
     /// The lowest occurrence of the first text's key in the second's.
     pub key: Range<usize>,
-    /// The smallest run of whole characters of the second text that covers it.
+    /// The smallest run of whole characters of the second text that covers it; of octets, where that text is compared octet by octet
+    /// (under `i;octet` and `i;ascii-casemap`, and where it is not valid UTF-8).
     pub text: Range<usize>,
 }
 
@@ -48,9 +71,22 @@ struct Keys {
     second: Vec<u8>,
 }
 
+impl Keys {
+    const NONE: Keys = Keys { first: Vec::new(), second: Vec::new() };
+}
+
 thread_local! {
     // The calls that answer no key still need room for two; it is kept between calls, since names come by the thousand.
-    static KEYS: RefCell<Keys> = const { RefCell::new(Keys { first: Vec::new(), second: Vec::new() }) };
+    static KEYS: Cell<Keys> = const { Cell::new(Keys::NONE) };
+}
+
+/// Does some work with the thread's key buffers or, while the thread ends and has none any more, with new ones.
+fn with_keys<R>(work: impl FnOnce(&mut Keys) -> R) -> R {
+    let mut keys = KEYS.try_with(|kept| kept.replace(Keys::NONE)).unwrap_or(Keys::NONE);
+    let result = work(&mut keys);
+    // Nothing is lost if the thread keeps none: the buffers are freed here.
+    let _ = KEYS.try_with(|kept| kept.set(keys));
+    result
 }
 
 /// Makes a buffer long enough for the key of any text that is as long as this one. A text over the limit needs none: it is refused.
@@ -61,17 +97,92 @@ fn make_room(buffer: &mut Vec<u8>, text: &[u8]) {
     }
 }
 
-impl<'a> Table<'a> {
-    /// Checks a table, and borrows it if it is accepted: four numbers an entry (code point, titlecase, start in the pool, count).
+impl Table {
+    /// Checks a table, and keeps it if it is accepted: four numbers an entry (code point, titlecase, start in the pool, count).
+    ///
+    /// It takes vectors, which it then owns, and slices that live as long as the program, which it borrows; other slices are first
+    /// copied with `to_vec`, which costs little beside the check.
     ///
     /// Refusals 3 to 7.
-    pub fn new(entries: &'a [u32], pool: &'a [u32]) -> Result<Table<'a>, Refusal> {
+    ///
+    /// ```
+    /// use mundeziwa::Table;
+    ///
+    /// static ENTRIES: [u32; 4] = [0xE9, 0xE9, 0, 2];
+    /// static POOL: [u32; 2] = [0x65, 0x301];
+    /// let borrowed = Table::new(&ENTRIES, &POOL)?;
+    /// let owned = Table::new(ENTRIES.to_vec(), POOL.to_vec())?;
+    /// assert_eq!(borrowed.entries(), owned.entries());
+    ///
+    /// // The same parts, but from a wrong start.
+    /// assert_eq!(Table::new(&[0xE9, 0xE9, 1, 2], &POOL).unwrap_err().number(), 5);
+    /// # Ok::<(), mundeziwa::Refusal>(())
+    /// ```
+    pub fn new(entries: impl Into<Cow<'static, [u32]>>, pool: impl Into<Cow<'static, [u32]>>) -> Result<Table, Refusal> {
         ffi::check_interface();
+        let (entries, pool) = (entries.into(), pool.into());
         let mut answer = [0; 3];
         // SAFETY: the pointers and lengths are those of live slices, and the answer row has three numbers.
         unsafe { ffi::mz_check_table(entries.as_ptr(), entries.len(), pool.as_ptr(), pool.len(), &mut answer) };
         Refusal::of(&answer)?;
         Ok(Table { entries, pool })
+    }
+
+    /// The table without an entry, in which every code point maps to itself. It serves [`Collation::Octet`] and
+    /// [`Collation::AsciiCasemap`], which read no table.
+    ///
+    /// ```
+    /// use mundeziwa::{Collation, Table};
+    ///
+    /// assert!(Table::empty().equal(Collation::AsciiCasemap, "Beryl", "BERYL")?);
+    /// # Ok::<(), mundeziwa::Refusal>(())
+    /// ```
+    pub fn empty() -> Table {
+        ffi::check_interface();
+        // Two empty slices are always accepted.
+        Table { entries: Cow::Borrowed(&[]), pool: Cow::Borrowed(&[]) }
+    }
+
+    /// The entries, four numbers each: with the pool, what [`Table::new`] takes.
+    ///
+    /// ```
+    /// let table = mundeziwa::Table::new(&[0x61, 0x41, 0, 0], &[])?;
+    /// assert_eq!(table.entries(), [0x61, 0x41, 0, 0]);
+    /// # Ok::<(), mundeziwa::Refusal>(())
+    /// ```
+    pub fn entries(&self) -> &[u32] {
+        &self.entries
+    }
+
+    /// The pool: the decompositions of all entries, one after another.
+    ///
+    /// ```
+    /// let table = mundeziwa::Table::new(&[0xE9, 0xE9, 0, 2], &[0x65, 0x301])?;
+    /// assert_eq!(table.pool(), [0x65, 0x301]);
+    /// # Ok::<(), mundeziwa::Refusal>(())
+    /// ```
+    pub fn pool(&self) -> &[u32] {
+        &self.pool
+    }
+
+    /// The key of a text: two texts are equal exactly when their keys are, so records that are filed under it are joined by name.
+    ///
+    /// Refusal 2.
+    ///
+    /// ```
+    /// use mundeziwa::{Collation, Table};
+    ///
+    /// let table = Table::new(&[0xE9, 0xE9, 0, 2], &[0x65, 0x301])?;
+    /// assert_eq!(table.key(Collation::UnicodeCasemap, "é")?, b"\x65\xCC\x81");
+    /// assert_eq!(table.key(Collation::UnicodeCasemap, "e\u{301}")?, b"\x65\xCC\x81");
+    /// # Ok::<(), mundeziwa::Refusal>(())
+    /// ```
+    pub fn key(&self, collation: Collation, text: impl AsRef<[u8]>) -> Result<Vec<u8>, Refusal> {
+        let text = text.as_ref();
+        with_keys(|keys| {
+            make_room(&mut keys.first, text);
+            Ok(self.prepare(collation, text, &mut keys.first)?.key.to_vec())
+        })
     }
 
     /// Prepares a text: its key, whether it is valid, and the lookup count. The key is left at the start of the buffer, or is the
@@ -83,16 +194,21 @@ impl<'a> Table<'a> {
     /// use mundeziwa::{Collation, Table};
     ///
     /// let table = Table::new(&[0x61, 0x41, 0, 0], &[])?;
-    /// let mut key = [0; 8];
-    /// let prepared = table.prepare(Collation::UnicodeCasemap, b"a", &mut key)?;
+    /// let mut buffer = [0; 8];
+    /// let prepared = table.prepare(Collation::UnicodeCasemap, "a", &mut buffer)?;
     /// assert_eq!(prepared.key, b"A");
+    /// assert!(prepared.valid);
     /// assert_eq!(prepared.lookups, 2);
     /// # Ok::<(), mundeziwa::Refusal>(())
     /// ```
-    pub fn prepare<'k>(&self, collation: Collation, text: &'k [u8], key: &'k mut [u8]) -> Result<Prepared<'k>, Refusal> {
+    pub fn prepare<'k, T>(&self, collation: Collation, text: &'k T, buffer: &'k mut [u8]) -> Result<Prepared<'k>, Refusal>
+    where
+        T: AsRef<[u8]> + ?Sized,
+    {
+        let text = text.as_ref();
         let mut answer = [0; 7];
-        // SAFETY: the table was accepted and is borrowed, so it is as it was checked; the key overlaps no other argument, since
-        // it is borrowed alone.
+        // SAFETY: the table was accepted, and nobody can have changed it since; the buffer overlaps no other argument, since it is
+        // borrowed alone.
         unsafe {
             ffi::mz_prepare_accepted(
                 collation as u32,
@@ -102,20 +218,31 @@ impl<'a> Table<'a> {
                 self.entries.len(),
                 self.pool.as_ptr(),
                 self.pool.len(),
-                key.as_mut_ptr(),
-                key.len(),
+                buffer.as_mut_ptr(),
+                buffer.len(),
                 &mut answer,
             )
         };
         Refusal::of(&answer)?;
         let length = answer[5] as usize;
-        let key = if answer[6] == 0 { &text[..length] } else { &key[..length] };
+        let key = if answer[6] == 0 { &text[..length] } else { &buffer[..length] };
         Ok(Prepared { key, valid: answer[3] == 1, lookups: answer[4] })
     }
 
     /// Whether two texts have equal keys.
     ///
     /// Refusal 2.
+    ///
+    /// ```
+    /// use mundeziwa::{Collation, Table};
+    ///
+    /// let table = Table::new(&[0xE9, 0xE9, 0, 2], &[0x65, 0x301])?;
+    /// assert!(table.equal(Collation::UnicodeCasemap, "é", "e\u{301}")?);
+    /// assert!(!table.equal(Collation::Octet, "é", "e\u{301}")?);
+    /// // A broken name compares as octets.
+    /// assert!(table.equal(Collation::UnicodeCasemap, b"Jos\xC3", b"Jos\xC3")?);
+    /// # Ok::<(), mundeziwa::Refusal>(())
+    /// ```
     pub fn equal(&self, collation: Collation, first: impl AsRef<[u8]>, second: impl AsRef<[u8]>) -> Result<bool, Refusal> {
         let answer = self.compare(ffi::mz_equal_accepted, collation, first.as_ref(), second.as_ref())?;
         Ok(answer[3] == 1)
@@ -124,6 +251,16 @@ impl<'a> Table<'a> {
     /// How the keys of two texts are ordered: octet by octet, unsigned; a proper prefix is less.
     ///
     /// Refusal 2.
+    ///
+    /// ```
+    /// use mundeziwa::{Collation, Table};
+    /// use std::cmp::Ordering;
+    ///
+    /// let table = Table::empty();
+    /// assert_eq!(table.order(Collation::AsciiCasemap, "ophelia", "Otto")?, Ordering::Less);
+    /// assert_eq!(table.order(Collation::Octet, "ophelia", "Otto")?, Ordering::Greater);
+    /// # Ok::<(), mundeziwa::Refusal>(())
+    /// ```
     pub fn order(&self, collation: Collation, first: impl AsRef<[u8]>, second: impl AsRef<[u8]>) -> Result<Ordering, Refusal> {
         let answer = self.compare(ffi::mz_order_accepted, collation, first.as_ref(), second.as_ref())?;
         Ok(match answer[3] {
@@ -141,9 +278,13 @@ impl<'a> Table<'a> {
     /// ```
     /// use mundeziwa::{Collation, Table};
     ///
-    /// let table = Table::new(&[], &[])?;
-    /// let hit = table.find(Collation::AsciiCasemap, "irene", "Hurricane Irene")?.expect("she is there");
+    /// let hit = Table::empty().find(Collation::AsciiCasemap, "irene", "Hurricane Irene")?.expect("she is there");
     /// assert_eq!(hit.text, 10..15);
+    ///
+    /// // A hit never cuts a letter in half: the accent alone is sought, and the letter is found.
+    /// let table = Table::new(&[0xE9, 0xE9, 0, 2], &[0x65, 0x301])?;
+    /// let hit = table.find(Collation::UnicodeCasemap, "\u{301}", "José")?.expect("it is there");
+    /// assert_eq!((hit.key, hit.text), (4..6, 3..5));
     /// # Ok::<(), mundeziwa::Refusal>(())
     /// ```
     pub fn find(&self, collation: Collation, first: impl AsRef<[u8]>, second: impl AsRef<[u8]>) -> Result<Option<Hit>, Refusal> {
@@ -161,10 +302,10 @@ impl<'a> Table<'a> {
         second: &[u8],
     ) -> Result<[u64; N], Refusal> {
         let mut answer = [0; N];
-        KEYS.with_borrow_mut(|keys| {
+        with_keys(|keys| {
             make_room(&mut keys.first, first);
             make_room(&mut keys.second, second);
-            // SAFETY: the table was accepted and is borrowed, so it is as it was checked; the keys overlap no other argument, since
+            // SAFETY: the table was accepted, and nobody can have changed it since; the keys overlap no other argument, since
             // they are this module's own.
             unsafe {
                 call(
@@ -187,5 +328,12 @@ impl<'a> Table<'a> {
         });
         Refusal::of(&answer)?;
         Ok(answer)
+    }
+}
+
+/// The number of entries and of pool numbers, not the numbers themselves.
+impl fmt::Debug for Table {
+    fn fmt(&self, f: &mut fmt::Formatter<'_>) -> fmt::Result {
+        f.debug_struct("Table").field("entries", &(self.entries.len() / 4)).field("pool", &self.pool.len()).finish()
     }
 }

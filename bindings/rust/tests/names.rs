@@ -1,5 +1,5 @@
-//! What a user of the crate may count on, over table T of the scope paper.
-use mundeziwa::{Collation, Hit, ReadError, Refusal, Table, TableBuilder, KEY_PER_OCTET_MOST};
+//! What a user of the crate may count on, over table T of document 01.
+use mundeziwa::{Collation, Hit, Refusal, Table, KEY_PER_OCTET_MOST};
 use std::cmp::Ordering;
 
 /// Table T: code point, titlecase, decomposition.
@@ -18,22 +18,21 @@ const T: [(u32, u32, &[u32]); 12] = [
     (0xFB01, 0xFB01, &[0x66, 0x69]),
 ];
 
-fn slices() -> (Vec<u32>, Vec<u32>) {
+fn table_t() -> Table {
     let mut entries = Vec::new();
     let mut pool = Vec::new();
     for (code, title, parts) in T {
         entries.extend([code, title, pool.len() as u32, parts.len() as u32]);
         pool.extend(parts);
     }
-    (entries, pool)
+    Table::new(entries, pool).unwrap()
 }
 
 const UNICODE: Collation = Collation::UnicodeCasemap;
 
 #[test]
 fn keys_and_counts_are_the_papers() {
-    let (entries, pool) = slices();
-    let table = Table::new(&entries, &pool).unwrap();
+    let table = table_t();
     for (text, key, lookups) in [
         (b"\xC3\xA9".as_slice(), b"\x45\xCC\x81".as_slice(), 4),
         (b"\xC7\x84", b"\x44\x7A\xCC\x8C", 6),
@@ -48,8 +47,7 @@ fn keys_and_counts_are_the_papers() {
 
 #[test]
 fn a_broken_name_is_its_own_key_and_leaves_the_buffer() {
-    let (entries, pool) = slices();
-    let table = Table::new(&entries, &pool).unwrap();
+    let table = table_t();
     let mut buffer = [0xAA; 4];
     let prepared = table.prepare(UNICODE, b"\xC3", &mut buffer).unwrap();
     assert_eq!((prepared.key, prepared.lookups, prepared.valid), (b"\xC3".as_slice(), 0, false));
@@ -58,8 +56,7 @@ fn a_broken_name_is_its_own_key_and_leaves_the_buffer() {
 
 #[test]
 fn a_short_buffer_is_told_the_length_that_is_needed() {
-    let (entries, pool) = slices();
-    let table = Table::new(&entries, &pool).unwrap();
+    let table = table_t();
     let mut buffer = [0xAA; 2];
     let refusal = table.prepare(UNICODE, b"\xC3\xA9", &mut buffer).unwrap_err();
     assert_eq!((refusal.number(), refusal.place(), refusal.detail()), (8, 1, 3));
@@ -69,8 +66,7 @@ fn a_short_buffer_is_told_the_length_that_is_needed() {
 
 #[test]
 fn order_and_hits_are_the_papers() {
-    let (entries, pool) = slices();
-    let table = Table::new(&entries, &pool).unwrap();
+    let table = table_t();
     assert_eq!(table.order(UNICODE, "E", "é"), Ok(Ordering::Less));
     assert_eq!(table.order(UNICODE, b"\xC3", "é"), Ok(Ordering::Greater));
     assert_eq!(table.order(UNICODE, "é", "É"), Ok(Ordering::Equal));
@@ -82,7 +78,7 @@ fn order_and_hits_are_the_papers() {
 
 #[test]
 fn a_long_text_is_refused_by_its_place() {
-    let table = Table::new(&[], &[]).unwrap();
+    let table = Table::empty();
     let long = [0x61; 4097];
     let refused = |result: Result<bool, Refusal>| result.map_err(|r| (r.number(), r.place(), r.detail()));
     assert_eq!(refused(table.equal(UNICODE, long, "a")), Err((2, 1, 4097)));
@@ -93,35 +89,27 @@ fn a_long_text_is_refused_by_its_place() {
 #[test]
 fn the_longest_key_of_the_longest_text_has_room() {
     // One code point of 32 parts of four octets each.
-    let table_entries = [0x61, 0x61, 0, 32];
-    let pool = [0x10FFFF; 32];
-    let table = Table::new(&table_entries, &pool).unwrap();
+    let table = Table::new(vec![0x61, 0x61, 0, 32], vec![0x10FFFF; 32]).unwrap();
     let text = [0x61; 4096];
     assert_eq!(table.equal(UNICODE, text, text), Ok(true));
     let mut key = vec![0; text.len() * KEY_PER_OCTET_MOST];
     assert_eq!(table.prepare(UNICODE, &text, &mut key).unwrap().key.len(), 524_288);
+    assert_eq!(table.key(UNICODE, text).unwrap(), key);
 }
 
 #[test]
-fn a_refused_line_is_named_and_changes_nothing() {
-    let mut builder = TableBuilder::new();
-    builder.line("0061;LATIN SMALL LETTER A;Ll;0;L;;;;;N;;;0041;;0041").unwrap();
-    let refusal = builder.line("0061;LATIN SMALL LETTER A;Ll;0;L;;;;;N;;;0041;;0041").unwrap_err();
-    assert_eq!(refusal.to_string(), "refused 26 (order of lines): the code point is not above that of the line before");
-    assert_eq!(builder.entries(), [0x61, 0x41, 0, 0]);
-    assert!(builder.pool().is_empty());
-
-    let error = TableBuilder::read("0041;A;Lu;0;L;;;;;N;;;;0061;\nno line of the file\n".as_bytes()).unwrap_err();
-    assert!(matches!(&error, ReadError::Line(2, refusal) if refusal.number() == 21), "{error}");
+fn texts_may_be_anything_that_is_octets() {
+    let table = table_t();
+    let (name, octets) = (String::from("é"), vec![0xC3, 0x89]);
+    assert_eq!(table.equal(UNICODE, &name, &octets), Ok(true));
+    assert_eq!(table.equal(UNICODE, name.as_bytes(), octets.clone()), Ok(true));
+    let mut buffer = [0; 4];
+    assert_eq!(table.prepare(UNICODE, &name, &mut buffer).unwrap().key, b"E\xCC\x81");
+    assert_eq!(table.prepare(UNICODE, &octets, &mut buffer).unwrap().key, b"E\xCC\x81");
+    assert_eq!(table.prepare(UNICODE, "é", &mut buffer).unwrap().key, b"E\xCC\x81");
 }
 
 #[test]
-fn a_table_may_be_shared_between_threads() {
-    let (entries, pool) = slices();
-    let table = Table::new(&entries, &pool).unwrap();
-    std::thread::scope(|scope| {
-        for _ in 0..4 {
-            scope.spawn(|| (0..1000).for_each(|_| assert_eq!(table.equal(UNICODE, "é", "É"), Ok(true))));
-        }
-    });
+fn a_table_is_printed_by_its_counts() {
+    assert_eq!(format!("{:?}", table_t()), "Table { entries: 12, pool: 16 }");
 }
