@@ -1,5 +1,6 @@
 #!/usr/bin/env bash
-# The library as its users meet it: built by `make lib`, called from C through the archive and the shared object, and from Rust.
+# The library as its users meet it: built by `make lib`, called from C through the archive and the shared object, from Rust, and as README.md
+# says.
 set -euo pipefail
 cd "$(dirname "$0")/.."
 
@@ -44,3 +45,4 @@ same 'the header and crates/terms have different numbers' '' \
 same 'the header and crates/terms have different refusals' "$(grep '^REFUSED_' <<< "$header")" "$(grep '^REFUSED_' <<< "$terms")"
 
 CARGO_TARGET_DIR=build/rust cargo test --quiet --offline --manifest-path bindings/rust/Cargo.toml
+bash tests/readme.sh
