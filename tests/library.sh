@@ -1,6 +1,6 @@
 #!/usr/bin/env bash
-# The library as its users meet it: built by `make lib`, called from C through the archive and the shared object, from Rust, and as README.md
-# says.
+# The library as its users meet it: built by `make lib`, called from C through the archive and the shared object, from Rust, and
+# by the programs of README.md.
 set -euo pipefail
 cd "$(dirname "$0")/.."
 

@@ -1,6 +1,6 @@
 #!/usr/bin/env bash
-# README.md as a newcomer takes it: its C program compiled and its Rust program in a crate of its own, with the line for Cargo.toml as it
-# stands there, print what it says; its commands are those of `make help`, and its crates those of crates.txt.
+# README.md as a newcomer takes it: its C program, compiled strictly, and its Rust program, in a crate with its line for Cargo.toml,
+# print what it says; its commands are those of `make help`, and its crates those of crates.txt.
 # Needs build/lib, which `make lib` leaves.
 set -euo pipefail
 cd "$(dirname "$0")/.."
@@ -27,17 +27,21 @@ said=$(block text)
 
 block c > "$OUT/example.c"
 cc -std=c99 -Wall -Wextra -Werror -pedantic -Iinclude -o "$OUT/example" "$OUT/example.c" build/lib/libmundeziwa.a
-same 'the C program prints something else' "$said" "$("./$OUT/example")"
+printed=$("./$OUT/example") || fail 'the C program fails'
+same 'the C program prints something else' "$said" "$printed"
 
 block rust > "$OUT/src/main.rs"
 {
     printf '[package]\nname = "example"\nversion = "0.1.0"\nedition = "2021"\n\n[workspace]\n\n[dependencies]\n'
     block toml | sed "s|path/to/mundeziwa|$PWD|"
 } > "$OUT/Cargo.toml"
-same 'the Rust program prints something else' "$said" \
-    "$(CARGO_TARGET_DIR=$OUT/target cargo run --quiet --offline --manifest-path "$OUT/Cargo.toml")"
+printed=$(CARGO_TARGET_DIR=$OUT/target cargo run --quiet --offline --manifest-path "$OUT/Cargo.toml") || fail 'the Rust program fails'
+same 'the Rust program prints something else' "$said" "$printed"
 
-same 'README.md and make help have different commands' "$(make -s help)" "$(sed -n 's/^    \(make [a-z]*  *[a-z].*\)/\1/p' README.md)"
+commands=$(sed -n 's/^    \(make [a-z]*  *[a-z].*\)/\1/p' README.md)
+same 'README.md and make help have different commands' "$(make -s help)" "$commands"
+
+crates=$(awk -F '|' '/^\| Crate/ { inside = 1; getline; next } !/^\|/ { inside = 0 } inside { print $2 }' README.md)
 same 'README.md and crates.txt have different crates' "$(sed -n 's/^\([a-z0-9_]*\):.*/\1/p' crates.txt | sort)" \
-    "$(awk -F '|' '/^\| Crate/ { inside = 1; getline; next } !/^\|/ { inside = 0 } inside { print $2 }' README.md | tr -d ' ' | tr , '\n' | sort)"
+    "$(tr -d ' ' <<< "$crates" | tr , '\n' | sort)"
 echo 'readme: the programs print what README.md says'
