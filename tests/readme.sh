@@ -1,7 +1,7 @@
 #!/usr/bin/env bash
-# README.md as a newcomer takes it: its C program, compiled strictly, and its Rust program, in a crate with its line for Cargo.toml,
-# print what it says; its commands are those of `make help`, and its crates those of crates.txt.
-# Needs build/lib, which `make lib` leaves.
+# README.md as a newcomer takes it: its C program, compiled strictly, its Rust program, in a crate with its line for Cargo.toml, and
+# `pairs` print what it says; its commands are those of `make help`, and its crates those of crates.txt.
+# Needs build/lib, which `make lib` leaves; target/bin/pairs is left by `make pairs` and by `rt ci`.
 set -euo pipefail
 cd "$(dirname "$0")/.."
 
@@ -35,8 +35,17 @@ block rust > "$OUT/src/main.rs"
     printf '[package]\nname = "example"\nversion = "0.1.0"\nedition = "2021"\n\n[workspace]\n\n[dependencies]\n'
     block toml | sed "s|path/to/mundeziwa|$PWD|"
 } > "$OUT/Cargo.toml"
-printed=$(CARGO_TARGET_DIR=$OUT/target cargo run --quiet --offline --manifest-path "$OUT/Cargo.toml") || fail 'the Rust program fails'
+printed=$(CARGO_TARGET_DIR=$OUT/target cargo run --quiet --offline --manifest-path "$OUT/Cargo.toml") \
+    || fail 'the Rust program fails'
 same 'the Rust program prints something else' "$said" "$printed"
+
+if [ -x target/bin/pairs ]; then
+    # README.md adds the names after two spaces
+    said=$(sed -n '/^    collation /,/^    pairs /{s/^    //;s/  .*//;p}' README.md)
+    same 'pairs prints something else' "$said" "$(cd sample && ../target/bin/pairs < storms.txt)"
+else
+    echo 'readme: target/bin/pairs is not there, so what it prints was not compared'
+fi
 
 commands=$(sed -n 's/^    \(make [a-z]*  *[a-z].*\)/\1/p' README.md)
 same 'README.md and make help have different commands' "$(make -s help)" "$commands"
@@ -44,4 +53,4 @@ same 'README.md and make help have different commands' "$(make -s help)" "$comma
 crates=$(awk -F '|' '/^\| Crate/ { inside = 1; getline; next } !/^\|/ { inside = 0 } inside { print $2 }' README.md)
 same 'README.md and crates.txt have different crates' "$(sed -n 's/^\([a-z0-9_]*\):.*/\1/p' crates.txt | sort)" \
     "$(tr -d ' ' <<< "$crates" | tr , '\n' | sort)"
-echo 'readme: the programs print what README.md says'
+echo 'readme: what README.md says of its programs, commands and crates holds'
