@@ -1,6 +1,6 @@
 #!/usr/bin/env bash
-# README.md as a newcomer takes it: its C program, compiled strictly, its Rust program, in a crate with its line for Cargo.toml, and
-# `pairs` print what it says; its commands are those of `make help`, and its crates those of crates.txt.
+# README.md as a newcomer takes it: its C program, compiled strictly, its Rust program, in a crate with its line for Cargo.toml,
+# and `pairs` print what it says; its commands are those of `make help`, and its crates those of crates.txt.
 # Needs build/lib, which `make lib` leaves; target/bin/pairs is left by `make pairs` and by `rt ci`.
 set -euo pipefail
 cd "$(dirname "$0")/.."
