@@ -3,7 +3,8 @@
 //! The work is done by a library whose every function is proved to meet its contract; this crate checks a mapping table once,
 //! keeps it where nobody can change it, and calls that library. Nothing here panics on any input, and nothing is `unsafe` to call. (A
 //! library of another interface than this crate was written for, linked by mistake, stops the program at the first table or builder,
-//! with both numbers.)
+//! with both numbers.) What is linked is build/lib/libmundeziwa.a, which `make lib` leaves in the repository; MUNDEZIWA_LIB_DIR names
+//! another folder.
 //!
 //! Each text has a **key**, and texts are compared by their keys alone. Texts and lines are anything that is octets: `&str`, `String`,
 //! `&[u8]`, `Vec<u8>`. The numbers of refusals are those of document 01, which is docs/SCOPE.md of the repository.
@@ -36,11 +37,16 @@
 
 mod builder;
 mod ffi;
+mod keys;
+mod reading;
 mod refusal;
+mod refusal_kind;
 mod table;
 
-pub use builder::{ReadError, TableBuilder};
-pub use refusal::{Refusal, RefusalKind};
+pub use builder::TableBuilder;
+pub use reading::ReadError;
+pub use refusal::Refusal;
+pub use refusal_kind::RefusalKind;
 pub use table::{Hit, Prepared, Table};
 
 /// A collation, by its number in document 01.

@@ -1,8 +1,8 @@
 //! A checked table, and the calls that compare texts over it.
 use crate::ffi;
-use crate::{Collation, Refusal, KEY_PER_OCTET_MOST, TEXT_MOST};
+use crate::keys::with_keys;
+use crate::{Collation, Refusal};
 use std::borrow::Cow;
-use std::cell::Cell;
 use std::cmp::Ordering;
 use std::fmt;
 use std::ops::Range;
@@ -63,38 +63,6 @@ pub struct Hit {
     /// The smallest run of whole characters of the second text that covers it; of octets, where that text is compared octet by octet
     /// (under `i;octet` and `i;ascii-casemap`, and where it is not valid UTF-8).
     pub text: Range<usize>,
-}
-
-/// Room for the keys of two texts.
-struct Keys {
-    first: Vec<u8>,
-    second: Vec<u8>,
-}
-
-impl Keys {
-    const NONE: Keys = Keys { first: Vec::new(), second: Vec::new() };
-}
-
-thread_local! {
-    // The calls that answer no key still need room for two; it is kept between calls, since names come by the thousand.
-    static KEYS: Cell<Keys> = const { Cell::new(Keys::NONE) };
-}
-
-/// Does some work with the thread's key buffers or, while the thread ends and has none any more, with new ones.
-fn with_keys<R>(work: impl FnOnce(&mut Keys) -> R) -> R {
-    let mut keys = KEYS.try_with(|kept| kept.replace(Keys::NONE)).unwrap_or(Keys::NONE);
-    let result = work(&mut keys);
-    // Nothing is lost if the thread keeps none: the buffers are freed here.
-    let _ = KEYS.try_with(|kept| kept.set(keys));
-    result
-}
-
-/// Makes a buffer long enough for the key of any text that is as long as this one. A text over the limit needs none: it is refused.
-fn make_room(buffer: &mut Vec<u8>, text: &[u8]) {
-    let most = text.len().min(TEXT_MOST) * KEY_PER_OCTET_MOST;
-    if buffer.len() < most {
-        buffer.resize(most, 0);
-    }
 }
 
 impl Table {
@@ -180,13 +148,13 @@ impl Table {
     pub fn key(&self, collation: Collation, text: impl AsRef<[u8]>) -> Result<Vec<u8>, Refusal> {
         let text = text.as_ref();
         with_keys(|keys| {
-            make_room(&mut keys.first, text);
+            keys.make_room(text, &[]);
             Ok(self.prepare(collation, text, &mut keys.first)?.key.to_vec())
         })
     }
 
     /// Prepares a text: its key, whether it is valid, and the lookup count. The key is left at the start of the buffer, or is the
-    /// text itself (`i;octet`, and an invalid text). A buffer of [`KEY_PER_OCTET_MOST`] times the text's length is always enough.
+    /// text itself (`i;octet`, and an invalid text). A buffer of [`KEY_PER_OCTET_MOST`](crate::KEY_PER_OCTET_MOST) times the text's length is always enough.
     ///
     /// Refusals 2, and 8 with the length that the key needs.
     ///
@@ -303,8 +271,7 @@ impl Table {
     ) -> Result<[u64; N], Refusal> {
         let mut answer = [0; N];
         with_keys(|keys| {
-            make_room(&mut keys.first, first);
-            make_room(&mut keys.second, second);
+            keys.make_room(first, second);
             // SAFETY: the table was accepted, and nobody can have changed it since; the keys overlap no other argument, since
             // they are this module's own.
             unsafe {
