@@ -39,7 +39,7 @@ pub fn cover(
 {
     let s = start.0;
     let e = end.0;
-    let first = find_holder(text, entries, pool, TextPosition(0), KeyPosition(s));
+    let first = find_holder(text, entries, pool, TextPosition(0), start);
     let from = first.start;
     // The last octet is sought from the first one's character on, so that the text is walked once.
     let k = first.offset + (e - 1 - s);
@@ -63,29 +63,30 @@ fn find_holder(
     requires { ⌜ HasOctet (mappingOf (table (now entries) (now pool))) (characters (drop (from .0) (now text))) (k .0) ⌝ }
     ensures { λ r. ⌜ HolderFound (mappingOf (table (now (entries .entry)) (now (pool .entry)))) (characters (drop (from .0) (now (text .entry)))) (from .0) (k .0) r ⌝ }
 {
-    let mut at = from.0;
-    let mut left = k.0;
-    while at < text.len() {
-        let character = utf8::read_valid(text, TextPosition(at));
+    let mut at = from;
+    let mut left = k;
+    while at.0 < text.len() {
+        let character = utf8::read_valid(text, at);
         let sized = decompose::size_expansion(character.code, entries, pool);
         let octets = sized.octets;
-        if left < octets {
-            return holder_at(at, at + character.width, left);
+        let next = TextPosition(at.0 + character.width);
+        if left.0 < octets {
+            return holder_at(at, next, left);
         }
-        at += character.width;
-        left -= octets;
+        at = next;
+        left.0 -= octets;
     }
     // Never so: the key is longer than k.
     holder_at(at, at, left)
 }
 
-// A holder by its three numbers.
-fn holder_at(start: usize, end: usize, offset: usize) -> Holder
-    ensures { λ r. ⌜ r ≡ holding start end offset ⌝ }
+// A holder by its two places in the text, and by the octet's in the key, counted from the holder's first octet.
+fn holder_at(start: TextPosition, end: TextPosition, k: KeyPosition) -> Holder
+    ensures { λ r. ⌜ r ≡ holding (start .0) (end .0) (k .0) ⌝ }
 {
     Holder {
-        start: TextPosition(start),
-        end: TextPosition(end),
-        offset,
+        start,
+        end,
+        offset: k.0,
     }
 }

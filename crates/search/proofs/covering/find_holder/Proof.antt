@@ -18,10 +18,10 @@ use Rattle.search.proofs.covering.find_holder.Statement.{statement}
 use Rattle.search.proofs.covering.find_holder.Tie as tie
 
 abbrev Inv-loop : tie.InvT-loop
-Inv-loop text entries pool at₀ left₀ at left = Walking decode (mappingOf (table entries pool)) text at₀ left₀ at left
+Inv-loop text entries pool at₀ left₀ at left = Walking decode (mappingOf (table entries pool)) text (at₀ .0) (left₀ .0) (at .0) (left .0)
 
 abbrev μ-loop : tie.MeasureT-loop
-μ-loop text entries pool at₀ left₀ at left = length text - at
+μ-loop text entries pool at₀ left₀ at left = length text - at .0
 
 -- at the loop's head: the function's entry, and the text
 abbrev start : tie.At-loop Inv-loop μ-loop → tie.Start Inv-loop μ-loop
@@ -32,20 +32,24 @@ text-of l = start l .args .text .now
 
 -- where a character was read: the loop's head, and the character
 abbrev head : tie.After-read-valid Inv-loop μ-loop → tie.At-loop Inv-loop μ-loop
-head c = c .before .before
+head c = c .before .before .before
 
 abbrev read : tie.After-read-valid Inv-loop μ-loop → Character
 read c = characterOf (c .read-valid .result)
 
-decoded : (c : tie.After-read-valid Inv-loop μ-loop) → decode (drop (head c .loop .at) (text-of (head c))) ≡ some (read c)
+decoded : (c : tie.After-read-valid Inv-loop μ-loop) → decode (drop (head c .loop .at .0) (text-of (head c))) ≡ some (read c)
 decoded c = sym (c .read-valid .ensures)
 
 -- the character is within the text
 fits : (c : tie.After-read-valid Inv-loop μ-loop) → let l = head c in
-    (1 ≤ read c .width) × (l .loop .at + read c .width ≤ length (text-of l))
+    (1 ≤ read c .width) × (l .loop .at .0 + read c .width ≤ length (text-of l))
 fits c =
     let l = head c in
-    decode-drop-fits utf8-decodes (text-of l) (l .loop .at) (read c) (omega (arith, c .before .loop-test .taken)) (decoded c)
+    decode-drop-fits utf8-decodes (text-of l) (l .loop .at .0) (read c) (omega (arith, c .before .if1 .taken)) (decoded c)
+
+-- where it was sized, and its end is known: the sizing
+abbrev sized-at : tie.After-struct-known4 Inv-loop μ-loop → tie.After-size-expansion Inv-loop μ-loop
+sized-at c = c .before .before .before
 
 -- before the first character
 loop-holds : tie.Need-loop-holds Inv-loop μ-loop
@@ -54,15 +58,15 @@ loop-holds c = walking-start _ _ _ _ _ (c .before .before .before .pre .1)
 -- a character follows
 read-valid-requires : tie.Need-read-valid-requires Inv-loop μ-loop
 read-valid-requires c κs =
-    let l = c .before in
-    there-next utf8-decodes (text-of l) (l .loop .at) (l .loop .inv .has-octet .valid) (c .loop-test .taken)
+    let l = c .before .before in
+    there-next utf8-decodes (text-of l) (l .loop .at .0) (l .loop .inv .has-octet .valid) (c .if1 .taken)
 
 -- the table is accepted
 size-expansion-requires : tie.Need-size-expansion-requires Inv-loop μ-loop
 size-expansion-requires c κs = start (head c) .pre .0
 
-add-holder-at : tie.Need-add-holder-at Inv-loop μ-loop
-add-holder-at c =
+add-t12 : tie.Need-add-t12 Inv-loop μ-loop
+add-t12 c =
     let r = c .before .before .before in
     omega (arith, fits r, start (head r) .good .0 .0)
 
@@ -72,39 +76,37 @@ holder-at-requires c κs = search needs
 -- this character holds the octet
 returns : tie.Need-returns Inv-loop μ-loop
 returns c =
-    let tested = c .before .before in
-    let sized = tested .before in
+    let tested = c .before in
+    let sized = sized-at (tested .before) in
     let r = sized .before in
     let l = head r in
     rw (c .holder-at .ensures)
     (walking-found utf8-decodes (l .loop .inv) (read r) (decoded r)
-    (omega (arith, tested .if1 .taken, sized .size-expansion .ensures .octets)))
+    (omega (arith, tested .if2 .taken, sized .size-expansion .ensures .octets)))
 
-add-at : tie.Need-add-at Inv-loop μ-loop
-add-at c =
-    let r = c .before .before .before in
-    omega (arith, fits r, start (head r) .good .0 .0)
+sub-left : tie.Need-sub-left Inv-loop μ-loop
+sub-left c = search needs
 
 loop-less : tie.Need-loop-less Inv-loop μ-loop
 loop-less c =
-    let r = c .before .before .before in
+    let r = sized-at (c .before .before) .before in
     omega (arith, fits r)
 
 -- a later character holds the octet
 loop-again : tie.Need-loop-again Inv-loop μ-loop
 loop-again c =
     let tested = c .before in
-    let sized = tested .before in
+    let sized = sized-at (tested .before) in
     let r = sized .before in
     let l = head r in
-    walking-more utf8-decodes (l .loop .inv) (read r) (decoded r) (sized .size-expansion .result .octets) (sized .size-expansion .ensures .octets) (tested .if1 .left)
+    walking-more utf8-decodes (l .loop .inv) (read r) (decoded r) (sized .size-expansion .result .octets) (sized .size-expansion .ensures .octets) (tested .if2 .left)
 
 holder-at-requires-2 : tie.Need-holder-at-requires-2 Inv-loop μ-loop
 holder-at-requires-2 c κs = search needs
 
 -- the end of the text: never so
 returns-2 : tie.Need-returns-2 Inv-loop μ-loop
-returns-2 c = absurd (walking-done utf8-decodes (c .before .before .loop .inv) (c .before .loop-test .left))
+returns-2 c = absurd (walking-done utf8-decodes (c .before .before .before .loop .inv) (c .before .if1 .left))
 
 pub find-holder-spec : {M : Type 1} → statement M
 find-holder-spec =
@@ -115,10 +117,10 @@ find-holder-spec =
     loop-holds
     read-valid-requires
     size-expansion-requires
-    add-holder-at
+    add-t12
     holder-at-requires
     returns
-    add-at
+    sub-left
     loop-less
     loop-again
     holder-at-requires-2
