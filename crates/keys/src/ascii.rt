@@ -1,4 +1,6 @@
 // The key of a text under collation 2.
+use terms::KeyPosition;
+use terms::TextPosition;
 ghost use mathlib.Core.Path.{_≡_};
 ghost use mathlib.Core.List.{map};
 ghost use Prim.Native.Nat.{_≤_};
@@ -11,10 +13,14 @@ pub fn write_ascii(text: &[u8], key: &mut [u8])
     requires { ⌜ length (now text) ≤ length (now key) ⌝ }
     ensures { λ _. ⌜ now (key .exit) ≡ over (map upper (now (text .entry))) (now (key .entry)) ⌝ }
 {
-    let mut i = 0;
-    while i < text.len() {
-        key[i] = raised(text[i]);
-        i += 1;
+    let mut at = TextPosition(0);
+    let mut end = KeyPosition(0);
+    while at.0 < text.len() {
+        let i = at.0;
+        let j = end.0;
+        key[j] = raised(text[i]);
+        at.0 += 1;
+        end.0 += 1;
     }
 }
 

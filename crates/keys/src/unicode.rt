@@ -1,6 +1,7 @@
 // The key of a text under collation 3: the published steps, character by character.
 use super::KeyPlace;
 use super::Summary;
+use terms::KeyPosition;
 use terms::TextPosition;
 ghost use mathlib.Core.Path.{_≡_};
 ghost use mathlib.Core.Bool.{true};
@@ -23,20 +24,20 @@ pub fn size_unicode(text: &[u8], entries: &[u32], pool: &[u32]) -> Summary
     requires { ⌜ there (characters (now text)) ≡ true ⌝ }
     ensures { λ r. ⌜ summaryNumbers r ≡ preparedNumbers (unicodePrepared (mappingOf (table (now (entries .entry)) (now (pool .entry)))) (now (text .entry)) (characters (now (text .entry)))) ⌝ }
 {
-    let mut at = 0;
-    let mut octets = 0;
+    let mut at = TextPosition(0);
+    let mut end = KeyPosition(0);
     let mut lookups: u64 = 0;
-    while at < text.len() {
-        let character = utf8::read_valid(text, TextPosition(at));
+    while at.0 < text.len() {
+        let character = utf8::read_valid(text, at);
         let sized = decompose::size_expansion(character.code, entries, pool);
-        at += character.width;
-        octets += sized.octets;
+        at.0 += character.width;
+        end.0 += sized.octets;
         lookups += sized.asks;
     }
     Summary {
         valid: true,
         lookups,
-        key_length: octets,
+        key_length: end.0,
         place: KeyPlace::Buffer,
     }
 }
@@ -49,20 +50,21 @@ pub fn write_unicode(text: &[u8], entries: &[u32], pool: &[u32], key: &mut [u8])
     requires { ⌜ roomFor (unicodePrepared (mappingOf (table (now entries) (now pool))) (now text) (characters (now text))) ≤ length (now key) ⌝ }
     ensures { λ r. ⌜ KeyFilled (unicodePrepared (mappingOf (table (now (entries .entry)) (now (pool .entry)))) (now (text .entry)) (characters (now (text .entry)))) (now (key .entry)) r (now (key .exit)) ⌝ }
 {
-    let mut at = 0;
-    let mut end = 0;
+    let mut at = TextPosition(0);
+    let mut end = KeyPosition(0);
     let mut lookups: u64 = 0;
-    while at < text.len() {
-        let character = utf8::read_valid(text, TextPosition(at));
-        let written = decompose::write_expansion(character.code, entries, pool, &mut key[end..]);
-        at += character.width;
-        end += written.octets;
+    while at.0 < text.len() {
+        let character = utf8::read_valid(text, at);
+        let free = end.0;
+        let written = decompose::write_expansion(character.code, entries, pool, &mut key[free..]);
+        at.0 += character.width;
+        end.0 += written.octets;
         lookups += written.asks;
     }
     Summary {
         valid: true,
         lookups,
-        key_length: end,
+        key_length: end.0,
         place: KeyPlace::Buffer,
     }
 }
