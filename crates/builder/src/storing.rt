@@ -2,6 +2,7 @@
 use crate::LineState;
 use crate::checks;
 use table::layout;
+use terms::CodePoint;
 use ucd::SimpleProperties;
 ghost use mathlib.Core.Path.{_≡_};
 ghost use mathlib.Core.Bool.{false};
@@ -39,8 +40,8 @@ pub fn store(
     layout::put_entry(
         entries,
         used,
-        simple.code,
-        simple.title,
+        CodePoint(simple.code),
+        CodePoint(simple.title),
         start as u32,
         parts.len() as u32,
     );

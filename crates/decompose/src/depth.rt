@@ -24,7 +24,7 @@ pub fn check_levels(entries: &[u32], pool: &[u32]) -> Check
         if parts.len() != 0 {
             let measurement = measure(
                 terms::LEVELS_MOST,
-                CodePoint(layout::code_at(entries, i)),
+                layout::code_at(entries, i),
                 parts,
                 terms::FULL_MOST,
                 entries,

@@ -62,7 +62,7 @@ pub fn size_expansion(c: CodePoint, entries: &[u32], pool: &[u32]) -> Unfolded
             asks: 2,
         };
     };
-    let title = CodePoint(layout::title_at(entries, i));
+    let title = layout::title_at(entries, i);
     let parts = title_parts(c, i, entries, pool);
     if parts.len() == 0 {
         let octets = utf8::octet_count(title);
@@ -86,7 +86,7 @@ pub fn write_expansion(c: CodePoint, entries: &[u32], pool: &[u32], out: &mut [u
         let octets = utf8::write_character(c, out);
         return Unfolded { octets, asks: 2 };
     };
-    let title = CodePoint(layout::title_at(entries, i));
+    let title = layout::title_at(entries, i);
     let parts = title_parts(c, i, entries, pool);
     if parts.len() == 0 {
         let octets = utf8::write_character(title, out);
@@ -106,10 +106,10 @@ fn title_parts<'a>(c: CodePoint, i: usize, entries: &[u32], pool: &'a [u32]) -> 
     ensures { λ r. ⌜ now r ≡ partsOf (table (now (entries .entry)) (now (pool .entry))) (titleAt (now (entries .entry)) i) ⌝ }
 {
     let title = layout::title_at(entries, i);
-    if title == c.0 {
+    if title.0 == c.0 {
         return table::parts_at(entries, pool, i);
     }
-    table::parts_of(entries, pool, CodePoint(title))
+    table::parts_of(entries, pool, title)
 }
 
 // The octets of the full decomposition of a code point that has these parts, and the asks of its unfolding.

@@ -44,16 +44,18 @@ fn is_faulty_code(entries: &[u32], i: usize) -> bool
     ensures { λ r. ⌜ r ≡ faultyCode (now (entries .entry)) i ⌝ }
 {
     let c = layout::code_at(entries, i);
-    if !terms::is_scalar(c) {
+    if !terms::is_scalar(c.0) {
         return true;
     }
-    if !terms::is_scalar(layout::title_at(entries, i)) {
+    let title = layout::title_at(entries, i);
+    if !terms::is_scalar(title.0) {
         return true;
     }
     if i == 0 {
         return false;
     }
-    c <= layout::code_at(entries, i - 1)
+    let before = layout::code_at(entries, i - 1);
+    c.0 <= before.0
 }
 
 // Where 5 finds a fault: the lowest entry, or the number of entries if the pool is longer than all counts.
@@ -97,7 +99,9 @@ fn is_faulty_entry(entries: &[u32], pool: &[u32], i: usize, sum: usize) -> bool
     if count != 0 {
         return false;
     }
-    layout::title_at(entries, i) == layout::code_at(entries, i)
+    let title = layout::title_at(entries, i);
+    let code = layout::code_at(entries, i);
+    title.0 == code.0
 }
 
 // The lowest pool number that 6 refuses.

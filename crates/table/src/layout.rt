@@ -2,6 +2,7 @@
 // writes a number of an entry, or knows how many an entry has.
 //
 // Each function is a line or two, so that it is inlined where it is called.
+use terms::CodePoint;
 ghost use mathlib.Core.Path.{_≡_};
 ghost use Prim.Native.Nat.{_<_, _≤_};
 ghost use lib.Dec.{eqb};
@@ -32,19 +33,19 @@ pub fn has_whole_entries(entries: &[u32]) -> bool
 }
 
 // The code point of an entry.
-pub fn code_at(entries: &[u32], i: usize) -> u32
+pub fn code_at(entries: &[u32], i: usize) -> CodePoint
     requires { ⌜ i < entryCount (now entries) ⌝ }
-    ensures { λ r. ⌜ r ≡ codeAt (now (entries .entry)) i ⌝ }
+    ensures { λ r. ⌜ r .0 ≡ codeAt (now (entries .entry)) i ⌝ }
 {
-    number_at(entries, i, 0)
+    CodePoint(number_at(entries, i, 0))
 }
 
 // The titlecase of an entry.
-pub fn title_at(entries: &[u32], i: usize) -> u32
+pub fn title_at(entries: &[u32], i: usize) -> CodePoint
     requires { ⌜ i < entryCount (now entries) ⌝ }
-    ensures { λ r. ⌜ r ≡ titleAt (now (entries .entry)) i ⌝ }
+    ensures { λ r. ⌜ r .0 ≡ titleAt (now (entries .entry)) i ⌝ }
 {
-    number_at(entries, i, 1)
+    CodePoint(number_at(entries, i, 1))
 }
 
 // The pool start of an entry.
@@ -64,13 +65,20 @@ pub fn count_at(entries: &[u32], i: usize) -> u32
 }
 
 // Writes an entry.
-pub fn put_entry(entries: &mut [u32], i: usize, code: u32, title: u32, start: u32, count: u32)
+pub fn put_entry(
+    entries: &mut [u32],
+    i: usize,
+    code: CodePoint,
+    title: CodePoint,
+    start: u32,
+    count: u32,
+)
     requires { ⌜ i < entryCount (now entries) ⌝ }
-    ensures { λ _. ⌜ now (entries .exit) ≡ putEntry i (entry code title start count) (now (entries .entry)) ⌝ }
+    ensures { λ _. ⌜ now (entries .exit) ≡ putEntry i (entry (code .0) (title .0) start count) (now (entries .entry)) ⌝ }
 {
     let at = i * ENTRY_WIDTH;
-    entries[at] = code;
-    entries[at + 1] = title;
+    entries[at] = code.0;
+    entries[at + 1] = title.0;
     entries[at + 2] = start;
     entries[at + 3] = count;
 }

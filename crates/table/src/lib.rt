@@ -53,19 +53,19 @@ pub fn find_entry(entries: &[u32], c: CodePoint) -> Place
     requires { ⌜ Ascending (now entries) ⌝ }
     ensures { λ r. ⌜ placeFound r ≡ entryOf (now (entries .entry)) (c .0) ⌝ }
 {
-    let sought = c.0;
-    let count = within_reach(entries, sought);
+    let count = within_reach(entries, c);
     if count == 0 {
         return Place::Nowhere;
     }
     // Where the code points follow the first one without a gap, as a to z do, the furthest within reach is the one.
     if count <= NEAR {
         let furthest = count - 1;
-        if layout::code_at(entries, furthest) == sought {
+        let there = layout::code_at(entries, furthest);
+        if there.0 == c.0 {
             return Place::At(furthest);
         }
     }
-    find_around(entries, sought, count)
+    find_around(entries, c, count)
 }
 
 // The decomposition of a code point, as a part of the pool; empty if it has none.
@@ -73,14 +73,13 @@ pub fn parts_of<'a>(entries: &[u32], pool: &'a [u32], c: CodePoint) -> &'a [u32]
     requires { ⌜ formRefusal (table (now entries) (now pool)) ≡ none ⌝ }
     ensures { λ r. ⌜ now r ≡ partsOf (table (now (entries .entry)) (now (pool .entry))) (c .0) ⌝ }
 {
-    let sought = c.0;
-    let count = within_reach(entries, sought);
+    let count = within_reach(entries, c);
     // A capital A to Z is below the first entry. Not by find_entry: with two callers find_around is compiled apart, and this
     // is inlined.
     if count == 0 {
         return &pool[..0];
     }
-    if let Place::At(i) = find_around(entries, sought, count) {
+    if let Place::At(i) = find_around(entries, c, count) {
         return parts_at(entries, pool, i);
     }
     &pool[..0]
@@ -110,18 +109,18 @@ pub fn refused_at(number: u32, i: usize) -> Check
 
 // How many entries can be the one of a code point or stand before it: the code points ascend, so none is further from the first
 // entry than its code point from the first one's.
-fn within_reach(entries: &[u32], sought: u32) -> usize
+fn within_reach(entries: &[u32], sought: CodePoint) -> usize
     requires { ⌜ Ascending (now entries) ⌝ }
-    ensures { λ r. ⌜ Candidates (now (entries .entry)) sought 0 r ⌝ }
+    ensures { λ r. ⌜ Candidates (now (entries .entry)) (sought .0) 0 r ⌝ }
 {
     if layout::has_no_entry(entries) {
         return 0;
     }
     let least = layout::code_at(entries, 0);
-    if sought < least {
+    if sought.0 < least.0 {
         return 0;
     }
-    let reach = (sought - least) as usize + 1;
+    let reach = (sought.0 - least.0) as usize + 1;
     let count = layout::entry_count(entries);
     if reach < count {
         return reach;
@@ -130,36 +129,37 @@ fn within_reach(entries: &[u32], sought: u32) -> usize
 }
 
 // The entry of a code point among the first `count`: where the published table has it, or around that place, or anywhere.
-fn find_around(entries: &[u32], sought: u32, count: usize) -> Place
+fn find_around(entries: &[u32], sought: CodePoint, count: usize) -> Place
     requires { ⌜ Ascending (now entries) ⌝ }
     requires { ⌜ 0 < count ⌝ }
-    requires { ⌜ Candidates (now entries) sought 0 count ⌝ }
-    ensures { λ r. ⌜ placeFound r ≡ entryOf (now (entries .entry)) sought ⌝ }
+    requires { ⌜ Candidates (now entries) (sought .0) 0 count ⌝ }
+    ensures { λ r. ⌜ placeFound r ≡ entryOf (now (entries .entry)) (sought .0) ⌝ }
 {
-    let guess = published::place_of(sought);
+    let guess = published::place_of(sought.0);
     if count <= guess {
         return find_among(entries, sought, 0, count);
     }
     let there = layout::code_at(entries, guess);
-    if there == sought {
+    if there.0 == sought.0 {
         return Place::At(guess);
     }
-    if there < sought {
+    if there.0 < sought.0 {
         return find_after(entries, sought, guess, count - guess);
     }
     find_before(entries, sought, guess)
 }
 
 // The entry of a code point among the `size` from `low` on: near `low`, if the entry NEAR places on is above the code point.
-fn find_after(entries: &[u32], sought: u32, low: usize, size: usize) -> Place
+fn find_after(entries: &[u32], sought: CodePoint, low: usize, size: usize) -> Place
     requires { ⌜ Ascending (now entries) ⌝ }
     requires { ⌜ 0 < size ⌝ }
-    requires { ⌜ Candidates (now entries) sought low size ⌝ }
-    ensures { λ r. ⌜ placeFound r ≡ entryOf (now (entries .entry)) sought ⌝ }
+    requires { ⌜ Candidates (now entries) (sought .0) low size ⌝ }
+    ensures { λ r. ⌜ placeFound r ≡ entryOf (now (entries .entry)) (sought .0) ⌝ }
 {
     if NEAR < size {
         let far = low + NEAR;
-        if sought < layout::code_at(entries, far) {
+        let beyond = layout::code_at(entries, far);
+        if sought.0 < beyond.0 {
             return find_among(entries, sought, low, NEAR);
         }
     }
@@ -168,18 +168,20 @@ fn find_after(entries: &[u32], sought: u32, low: usize, size: usize) -> Place
 
 // The entry of a code point among the first `high`: none, if the last of them is below it; near `high`, if the entry NEAR places
 // back is not above it.
-fn find_before(entries: &[u32], sought: u32, high: usize) -> Place
+fn find_before(entries: &[u32], sought: CodePoint, high: usize) -> Place
     requires { ⌜ Ascending (now entries) ⌝ }
     requires { ⌜ 0 < high ⌝ }
-    requires { ⌜ Candidates (now entries) sought 0 high ⌝ }
-    ensures { λ r. ⌜ placeFound r ≡ entryOf (now (entries .entry)) sought ⌝ }
+    requires { ⌜ Candidates (now entries) (sought .0) 0 high ⌝ }
+    ensures { λ r. ⌜ placeFound r ≡ entryOf (now (entries .entry)) (sought .0) ⌝ }
 {
-    if layout::code_at(entries, high - 1) < sought {
+    let last = layout::code_at(entries, high - 1);
+    if last.0 < sought.0 {
         return Place::Nowhere;
     }
     if NEAR < high {
         let low = high - NEAR;
-        if layout::code_at(entries, low) <= sought {
+        let there = layout::code_at(entries, low);
+        if there.0 <= sought.0 {
             return find_among(entries, sought, low, NEAR);
         }
     }
@@ -188,23 +190,25 @@ fn find_before(entries: &[u32], sought: u32, high: usize) -> Place
 
 // The entry of a code point among the `size` from `low` on. A turn asks one question, not also whether this is the one: names
 // hold the same letters again and again, and their ways are soon foreseen.
-fn find_among(entries: &[u32], sought: u32, low: usize, size: usize) -> Place
+fn find_among(entries: &[u32], sought: CodePoint, low: usize, size: usize) -> Place
     requires { ⌜ Ascending (now entries) ⌝ }
     requires { ⌜ 0 < size ⌝ }
-    requires { ⌜ Candidates (now entries) sought low size ⌝ }
-    ensures { λ r. ⌜ placeFound r ≡ entryOf (now (entries .entry)) sought ⌝ }
+    requires { ⌜ Candidates (now entries) (sought .0) low size ⌝ }
+    ensures { λ r. ⌜ placeFound r ≡ entryOf (now (entries .entry)) (sought .0) ⌝ }
 {
     let mut first = low;
     let mut left = size;
     while 1 < left {
         let half = left / 2;
         let middle = first + half;
-        if layout::code_at(entries, middle) <= sought {
+        let there = layout::code_at(entries, middle);
+        if there.0 <= sought.0 {
             first = middle;
         }
         left -= half;
     }
-    if layout::code_at(entries, first) == sought {
+    let found = layout::code_at(entries, first);
+    if found.0 == sought.0 {
         return Place::At(first);
     }
     Place::Nowhere

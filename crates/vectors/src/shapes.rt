@@ -1,5 +1,6 @@
 // Tables in two local arrays: pool numbers, and chains of entries.
 use table::layout;
+use terms::CodePoint;
 ghost use Prim.Native.Nat.{_≤_};
 
 // The code point of a chain's first entry; entry i has the i-th after it.
@@ -47,6 +48,7 @@ fn put_link(entries: &mut [u32], i: u32, start: u32, parts: u32)
 {
     let at = i as usize;
     if at < layout::entry_count(entries) {
-        layout::put_entry(entries, at, FIRST + i, FIRST + i, start, parts);
+        let code = CodePoint(FIRST + i);
+        layout::put_entry(entries, at, code, code, start, parts);
     }
 }

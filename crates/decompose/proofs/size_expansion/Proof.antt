@@ -40,18 +40,18 @@ found c = sym (c .before .before .find-entry .ensures) ∙ ap placeFound (c .i .
 abbrev start : tie.After-title-at → tie.Start
 start c = c .before .before .before .before .before .before .before
 
-title : (c : tie.After-title-at) → let s = start c in titleOf (lent s .entries) (s .args .c .0) ≡ c .title-at .result
+title : (c : tie.After-title-at) → let s = start c in titleOf (lent s .entries) (s .args .c .0) ≡ c .title-at .result .0
 title c =
     let s = start c in
     titleOf-some (lent s .entries) (s .args .c .0) _ (found (c .before .before)) ∙ sym (c .title-at .ensures)
 
-bounded : (c : tie.After-title-at) → Bounded (mappingOf (lent (start c))) levelsMost (c .title-at .result)
+bounded : (c : tie.After-title-at) → Bounded (mappingOf (lent (start c))) levelsMost (c .title-at .result .0)
 bounded c =
     let s = start c in
-    bounded-unfolds (mappingOf (lent s)) (c .title-at .result) (accepted-all (lent s) (s .pre) (c .title-at .result))
+    bounded-unfolds (mappingOf (lent s)) (c .title-at .result .0) (accepted-all (lent s) (s .pre) (c .title-at .result .0))
 
 -- and where its parts were found
-parts : (c : tie.After-title-parts) → c .title-parts .result .now ≡ partsOf (lent (start (c .before))) (c .before .title-at .result)
+parts : (c : tie.After-title-parts) → c .title-parts .result .now ≡ partsOf (lent (start (c .before))) (c .before .title-at .result .0)
 parts c = c .title-parts .ensures ∙ ap (partsOf (lent (start (c .before)))) (sym (c .before .title-at .ensures))
 
 -- the code points ascend
@@ -93,7 +93,7 @@ returns-2 c =
     let parted = c .before .before in
     let read = parted .before in
     let m = mappingOf (lent (start read)) in
-    let x = read .title-at .result in
+    let x = read .title-at .result .0 in
     counted-plain m (start read .args .c .0) x (title read) (parts-none m x _ (parts parted) (c .before .if1 .taken))
     (c .octet-count2 .result) (c .octet-count2 .ensures)
 
@@ -104,8 +104,8 @@ size-unfolded-requires c κs =
     (form (start read), (parts-some (parts (c .before)) (c .if1 .left), bounded read))
 
 -- for few asks
-add-t14 : tie.Need-add-t14
-add-t14 c =
+add-t13 : tie.Need-add-t13
+add-t13 c =
     let called = c .before in
     omega (arith, called .size-unfolded .ensures .asked, bounded-asks (bounded (called .before .before .before)))
 
@@ -114,7 +114,7 @@ returns-3 : tie.Need-returns-3
 returns-3 c =
     let called = c .before in
     let read = called .before .before .before in
-    counted-title (mappingOf (lent (start read))) (start read .args .c .0) (read .title-at .result) (title read)
+    counted-title (mappingOf (lent (start read))) (start read .args .c .0) (read .title-at .result .0) (title read)
     (called .size-unfolded .result) (called .size-unfolded .ensures)
 
 pub size-expansion-spec : {M : Type 1} → statement M
@@ -131,5 +131,5 @@ size-expansion-spec =
     octet-count-requires-2
     returns-2
     size-unfolded-requires
-    add-t14
+    add-t13
     returns-3)

@@ -18,14 +18,14 @@ title-at-requires c κs = entry (c .before .before)
 
 parts-at-requires : tie.Need-parts-at-requires
 parts-at-requires c κs =
-    let s = c .before .before .before .before .before in
+    let s = c .before .before .before .before .before .before in
     (s .pre .0, entry s)
 
 -- the titlecase is the code point, whose entry was found
 returns : tie.Need-returns
 returns c =
     let same = c .before in
-    let read = same .before .before in
+    let read = same .before .before .before in
     let s = read .before .before .before in
     let title = sym (read .title-at .ensures) ∙ same .if1 .taken in
     rw (ap (entryOf (s .args .entries .now)) title ∙ s .pre .1) (c .parts-at .ensures)
@@ -36,7 +36,7 @@ parts-of-requires c κs = search needs
 -- it is another
 returns-2 : tie.Need-returns-2
 returns-2 c =
-    let read = c .before .before .before in
+    let read = c .before .before .before .before in
     let a = read .before .before .before .args in
     c .parts-of .ensures ∙ ap (partsOf (table (a .entries .now) (a .pool .now))) (read .title-at .ensures)
 

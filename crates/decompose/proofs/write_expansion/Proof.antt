@@ -48,29 +48,29 @@ found c = sym (c .before .before .find-entry .ensures) ∙ ap placeFound (c .i .
 abbrev start : tie.After-title-at → tie.Start
 start c = c .before .before .before .before .before .before .before .before
 
-title : (c : tie.After-title-at) → let s = start c in titleOf (lent s .entries) (s .args .c .0) ≡ c .title-at .result
+title : (c : tie.After-title-at) → let s = start c in titleOf (lent s .entries) (s .args .c .0) ≡ c .title-at .result .0
 title c =
     let s = start c in
     titleOf-some (lent s .entries) (s .args .c .0) _ (found (c .before .before)) ∙ sym (c .title-at .ensures)
 
-scalar-title : (c : tie.After-title-at) → scalar (c .title-at .result) ≡ true
+scalar-title : (c : tie.After-title-at) → scalar (c .title-at .result .0) ≡ true
 scalar-title c =
     let s = start c in
     sym (ap scalar (title c)) ∙ formed-title-scalar (lent s) (form s) (s .args .c .0) (s .pre .1 .0)
 
-bounded : (c : tie.After-title-at) → Bounded (mappingOf (lent (start c))) levelsMost (c .title-at .result)
+bounded : (c : tie.After-title-at) → Bounded (mappingOf (lent (start c))) levelsMost (c .title-at .result .0)
 bounded c =
     let s = start c in
-    bounded-unfolds (mappingOf (lent s)) (c .title-at .result) (accepted-all (lent s) (s .pre .0) (c .title-at .result))
+    bounded-unfolds (mappingOf (lent s)) (c .title-at .result .0) (accepted-all (lent s) (s .pre .0) (c .title-at .result .0))
 
 -- where its parts were found, and where there are none
-parts : (c : tie.After-title-parts) → c .title-parts .result .now ≡ partsOf (lent (start (c .before))) (c .before .title-at .result)
+parts : (c : tie.After-title-parts) → c .title-parts .result .now ≡ partsOf (lent (start (c .before))) (c .before .title-at .result .0)
 parts c = c .title-parts .ensures ∙ ap (partsOf (lent (start (c .before)))) (sym (c .before .title-at .ensures))
 
-plain : (c : tie.Then1) → let read = c .before .before in partsOf (lent (start read)) (read .title-at .result) ≡ []
+plain : (c : tie.Then1) → let read = c .before .before in partsOf (lent (start read)) (read .title-at .result .0) ≡ []
 plain c =
     let read = c .before .before in
-    parts-none (mappingOf (lent (start read))) (read .title-at .result) _ (parts (c .before)) (c .if1 .taken)
+    parts-none (mappingOf (lent (start read))) (read .title-at .result .0) _ (parts (c .before)) (c .if1 .taken)
 
 -- the code points ascend
 find-entry-requires : tie.Need-find-entry-requires
@@ -143,8 +143,8 @@ write-unfolded-requires c κs =
     (form s, (split, (scalar-title read, (bounded read, rw octets at (s .pre .1 .1)))))
 
 -- for few asks
-add-t21 : tie.Need-add-t21
-add-t21 c =
+add-t20 : tie.Need-add-t20
+add-t20 c =
     let called = c .before .before .before in
     let read = called .before .before .before .before in
     omega (arith, called .write-unfolded .ensures .counted .asked, bounded-asks (bounded read))
@@ -177,6 +177,6 @@ write-expansion-spec =
     same-length-2
     returns-2
     write-unfolded-requires
-    add-t21
+    add-t20
     same-length-3
     returns-3)

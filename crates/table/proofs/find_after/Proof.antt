@@ -17,8 +17,9 @@ code-at-requires c κs = search needs
 -- near
 find-among-requires : tie.Need-find-among-requires
 find-among-requires c κs =
-    let s = c .before .before .before .before in
-    let above = rw (c .before .code-at .ensures) at (c .if2 .taken) in
+    let read = c .before .before .before in
+    let s = read .before .before .before in
+    let above = rw (read .code-at .ensures) at (c .if2 .taken) in
     (s .pre .0, (omega arith, candidates-down (s .pre .0) (s .pre .1 .1) (s .args .low + 64) (omega arith) (omega arith) above))
 
 returns : tie.Need-returns

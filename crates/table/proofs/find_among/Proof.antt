@@ -14,7 +14,7 @@ use Rattle.table.proofs.find_among.Statement.{statement}
 use Rattle.table.proofs.find_among.Tie as tie
 
 abbrev Inv-loop : tie.InvT-loop
-Inv-loop entries sought low size first₀ left₀ first left = (0 < left) × Candidates entries sought first left
+Inv-loop entries sought low size first₀ left₀ first left = (0 < left) × Candidates entries (sought .0) first left
 
 abbrev μ-loop : tie.MeasureT-loop
 μ-loop entries sought low size first₀ left₀ first left = left
@@ -37,7 +37,7 @@ loop-less c = search needs
 -- both ways
 loop-again : tie.Need-loop-again Inv-loop μ-loop
 loop-again c =
-    let called = c .before in
+    let called = c .before .before .before in
     let at-loop = called .before .before in
     let up = at-loop .before .before .pre .0 in
     let l = at-loop .loop in
@@ -55,14 +55,15 @@ code-at-requires-2 c κs = search needs
 -- it is the one
 returns : tie.Need-returns Inv-loop μ-loop
 returns c =
-    let l = c .before .before .before in
+    let read = c .before .before .before in
+    let l = read .before .before in
     let s = l .before .before in
-    cc (entryOf-entry (s .args .entries .now) (s .pre .0) (l .loop .first) (omega arith), c .if2 .taken, c .before .code-at2 .ensures)
+    cc (entryOf-entry (s .args .entries .now) (s .pre .0) (l .loop .first) (omega arith), c .if2 .taken, read .code-at2 .ensures)
 
 -- it is another's
 returns-2 : tie.Need-returns-2 Inv-loop μ-loop
 returns-2 c =
-    let read = c .before in
+    let read = c .before .before .before in
     let l = read .before .before in
     sym (candidates-other (l .before .before .pre .0) (l .loop .inv .1) (l .loop .inv .0) (omega arith)
     (λ e. c .if2 .left (read .code-at2 .ensures ∙ e)))

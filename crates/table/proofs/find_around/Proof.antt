@@ -12,6 +12,10 @@ use Rattle.table.proofs.find_around.Tie as tie
 abbrev start : tie.After-code-at → tie.Start
 start c = c .before .before .before .before
 
+-- where it was compared twice: where it was read
+abbrev read-at : tie.After-struct-known4 → tie.After-code-at
+read-at c = c .before .before .before .before .before
+
 place-of-requires : tie.Need-place-of-requires
 place-of-requires c κs = search needs
 
@@ -27,7 +31,7 @@ code-at-requires c κs = search needs
 -- the guess is right
 returns-2 : tie.Need-returns-2
 returns-2 c =
-    let read = c .before in
+    let read = c .before .before .before in
     let s = start read in
     let guess = read .before .before .place-of .result in
     let same = sym (read .code-at .ensures) ∙ c .if2 .taken in
@@ -39,7 +43,7 @@ sub-find-after c = search needs
 -- its entry is below
 find-after-requires : tie.Need-find-after-requires
 find-after-requires c κs =
-    let s = start (c .before .before) in
+    let s = start (read-at (c .before)) in
     (s .pre .0, (omega arith, candidates-up (s .pre .1 .1) (omega arith) (omega arith)))
 
 returns-3 : tie.Need-returns-3
@@ -48,7 +52,7 @@ returns-3 c = search needs
 -- its entry is above
 find-before-requires : tie.Need-find-before-requires
 find-before-requires c κs =
-    let read = c .before .before in
+    let read = read-at (c .before) in
     let p = start read .pre in
     let guess = read .before .before .place-of .result in (
       p .0,

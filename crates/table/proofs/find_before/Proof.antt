@@ -17,8 +17,9 @@ code-at-requires c κs = search needs
 -- past the last
 returns : tie.Need-returns
 returns c =
-    let s = c .before .before .before in
-    let below = rw (c .before .code-at .ensures) at (c .if1 .taken) in
+    let read = c .before .before .before in
+    let s = read .before .before in
+    let below = rw (read .code-at .ensures) at (c .if1 .taken) in
     sym (candidates-past (s .pre .0) (s .pre .1 .1) (s .args .high - 1) (omega arith) below)
 
 sub-low : tie.Need-sub-low
@@ -30,8 +31,9 @@ code-at-requires-2 c κs = search needs
 -- near
 find-among-requires : tie.Need-find-among-requires
 find-among-requires c κs =
-    let s = c .before .before .before .before .before .before in
-    let below = rw (c .before .code-at2 .ensures) at (c .if3 .taken) in
+    let read = c .before .before .before in
+    let s = read .before .before .before .before .before .before .before in
+    let below = rw (read .code-at2 .ensures) at (c .if3 .taken) in
     (s .pre .0, (omega arith, candidates-up (s .pre .1 .1) (omega arith) below))
 
 returns-2 : tie.Need-returns-2

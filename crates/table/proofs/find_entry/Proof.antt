@@ -25,10 +25,11 @@ code-at-requires c κs = search needs
 -- the last within reach is the one
 returns-2 : tie.Need-returns-2
 returns-2 c =
-    let called = c .before .before .before .before in
+    let read = c .before .before .before in
+    let called = read .before .before .before in
     let s = called .before .before in
     let last = called .within-reach .result - 1 in
-    cc (entryOf-entry (s .args .entries .now) (s .pre) last (omega arith), c .if3 .taken, c .before .code-at .ensures)
+    cc (entryOf-entry (s .args .entries .now) (s .pre) last (omega arith), c .if3 .taken, read .code-at .ensures)
 
 find-around-requires : tie.Need-find-around-requires
 find-around-requires c κs = search needs

@@ -9,6 +9,10 @@ use Rattle.table.proofs.Form.{ascending-from}
 use Rattle.table.proofs.within_reach.Statement.{statement}
 use Rattle.table.proofs.within_reach.Tie as tie
 
+-- where the first entry was read: the function's entry
+abbrev start : tie.After-code-at → tie.Start
+start c = c .before .before .before .before
+
 has-no-entry-requires : tie.Need-has-no-entry-requires
 has-no-entry-requires c κs = search needs
 
@@ -32,7 +36,7 @@ code-at-requires c κs =
 -- the first entry is above
 returns-2 : tie.Need-returns-2
 returns-2 c =
-    let s = c .before .before .before .before .before in
+    let s = start (c .before .before .before) in
     record {
       within = omega arith;
       first = λ l. absurd (omega arith);
@@ -51,7 +55,7 @@ entry-count-requires c κs = search needs
 -- fewer than all
 returns-3 : tie.Need-returns-3
 returns-3 c =
-    let s = c .before .before .before .before .before .before .before in
+    let s = start (c .before .before .before .before .before .before .before) in
     record {
       within = omega arith;
       first = λ l. omega arith;

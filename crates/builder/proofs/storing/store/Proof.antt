@@ -60,8 +60,8 @@ put-at-requires c κs = omega (arith, fits (c .before .before .before .before .b
 add-t9 : tie.Need-add-t9
 add-t9 c = omega (arith, fits (stored c))
 
-add-t19 : tie.Need-add-t19
-add-t19 c = omega (arith, fits (stored c))
+add-t21 : tie.Need-add-t21
+add-t21 c = omega (arith, fits (stored c))
 
 same-length : tie.Need-same-length
 same-length c = search needs
@@ -89,7 +89,7 @@ store-spec =
     put-entry-requires
     put-at-requires
     add-t9
-    add-t19
+    add-t21
     same-length
     same-length-2
     returns-2)

@@ -73,8 +73,9 @@ code-at-requires-2 c κs = search needs
 -- any other entry
 returns-4 : tie.Need-returns-4
 returns-4 c =
-    let a = c .before .before .before .before .before .before .before .before .before .args in
-    cc (ordered (c .before .before), notAbove-later (a .entries .now) (a .i) (c .before .if3 .left))
+    let later = c .before .before .before in
+    let a = later .before .before .before .before .before .before .before .before .args in
+    cc (ordered (later .before), notAbove-later (a .entries .now) (a .i) (later .if3 .left))
 
 pub is-faulty-code-spec : {M : Type 1} → statement M
 is-faulty-code-spec =

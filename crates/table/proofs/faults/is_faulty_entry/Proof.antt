@@ -84,9 +84,10 @@ code-at-requires c κs = search needs
 -- it has none
 returns-5 : tie.Need-returns-5
 returns-5 c =
-    let none = c .before .before in
+    let read = c .before .before in
+    let none = read .before .before in
     let a = entry (none .before .before .before .before) .args in
-    rw (says (none .before), ← c .code-at .ensures, ← c .before .title-at .ensures)
+    rw (says (none .before), ← read .code-at .ensures, ← read .before .title-at .ensures)
     (simp (eq-eqb (countAt (a .entries .now) (a .i)) 0 (cc), and-true))
 
 pub is-faulty-entry-spec : {M : Type 1} → statement M

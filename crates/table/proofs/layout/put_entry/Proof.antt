@@ -78,8 +78,8 @@ returns : tie.Need-returns
 unfolding putEntry
 returns c =
     let a = c .args in
-    stores (a .entries .now) (a .i * entryWidth) (a .code) (a .title) (a .start) (a .count)
-    (entry-fits (a .entries .now) (a .i) (entry (a .code) (a .title) (a .start) (a .count)) (c .pre))
+    stores (a .entries .now) (a .i * entryWidth) (a .code .0) (a .title .0) (a .start) (a .count)
+    (entry-fits (a .entries .now) (a .i) (entry (a .code .0) (a .title .0) (a .start) (a .count)) (c .pre))
 
 pub put-entry-spec : {M : Type 1} → statement M
 put-entry-spec =
