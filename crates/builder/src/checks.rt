@@ -72,10 +72,12 @@ pub fn has_surrogate(simple: SimpleProperties, parts: &[u32]) -> bool
     if says_nothing(simple, parts) {
         return false;
     }
-    if !terms::is_scalar(simple.code) {
+    let code = simple.code;
+    if !terms::is_scalar(code.0) {
         return true;
     }
-    if !terms::is_scalar(simple.title) {
+    let title = simple.title;
+    if !terms::is_scalar(title.0) {
         return true;
     }
     let mut i = 0;
@@ -92,7 +94,9 @@ pub fn has_surrogate(simple: SimpleProperties, parts: &[u32]) -> bool
 pub fn says_nothing(simple: SimpleProperties, parts: &[u32]) -> bool
     ensures { λ r. ⌜ r ≡ saysNothing (withParts simple (now (parts .entry))) ⌝ }
 {
-    if simple.title != simple.code {
+    let code = simple.code;
+    let title = simple.title;
+    if title.0 != code.0 {
         return false;
     }
     parts.len() == 0

@@ -62,7 +62,8 @@ fn add_given(
     if checks::has_surrogate(simple, parts) {
         return refused(terms::REFUSED_SURROGATE, state);
     }
-    let code = simple.code as usize;
+    let c = simple.code;
+    let code = c.0 as usize;
     if code < state.next {
         return refused(terms::REFUSED_ORDER, state);
     }

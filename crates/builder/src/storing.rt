@@ -2,7 +2,6 @@
 use crate::LineState;
 use crate::checks;
 use table::layout;
-use terms::CodePoint;
 use ucd::SimpleProperties;
 ghost use mathlib.Core.Path.{_≡_};
 ghost use mathlib.Core.Bool.{false};
@@ -27,7 +26,9 @@ pub fn store(
     ensures { λ r. ⌜ built r (now (entries .exit)) (now (pool .exit))
         ≡ added (built state (now (entries .entry)) (now (pool .entry))) (withParts simple (now (parts .entry))) ⌝ }
 {
-    let next = simple.code as usize + 1;
+    let code = simple.code;
+    let title = simple.title;
+    let next = code.0 as usize + 1;
     let used = state.entries_used;
     let start = state.pool_used;
     if checks::says_nothing(simple, parts) {
@@ -37,14 +38,7 @@ pub fn store(
             next,
         };
     }
-    layout::put_entry(
-        entries,
-        used,
-        CodePoint(simple.code),
-        CodePoint(simple.title),
-        start as u32,
-        parts.len() as u32,
-    );
+    layout::put_entry(entries, used, code, title, start as u32, parts.len() as u32);
     put_at(parts, pool, start);
     LineState {
         entries_used: used + 1,

@@ -22,7 +22,7 @@ pub record Properties : Type 0 where
 
 -- simple properties with parts
 abbrev pub withParts : SimpleProperties → List ℕ → Properties
-withParts s parts = record { code = s .code; title = s .title; parts = parts }
+withParts s parts = record { code = s .code .0; title = s .title .0; parts = parts }
 
 -- "Field 0 is the code point, 5 the decomposition, 14 the titlecase"; nothing where one of them is malformed
 unfoldable pub lineProperties : List ℕ → Option Properties

@@ -12,6 +12,8 @@ use Rattle.terms.specs.Refusals.{partsMost, refusal}
 use Rattle.ucd.specs.Lines.{withParts, lineProperties, readingRefusal}
 use Rattle.ucd.specs.declared.numbers.Number.{Number}
 use Rattle.ucd.specs.declared.numbers.Number.the-variants.{Value, Malformed}
+use Rattle.ucd.specs.declared.numbers.Digit.{Digit}
+use Rattle.ucd.specs.declared.numbers.Digit.the-variants.{Value as Valued, Malformed as Undigit}
 use Rattle.ucd.specs.declared.parts.Parts.{Parts}
 use Rattle.ucd.specs.declared.parts.Parts.the-variants.{Count, Malformed as Unlisted}
 use Rattle.ucd.specs.declared.SimpleProperties.{SimpleProperties}
@@ -27,10 +29,15 @@ pieceEnd sep (o ∷ os) = cond (eqb o sep) 0 (suc (pieceEnd sep os))
 
 -- ---- numbers
 
--- the number that was read, if there is one
+-- the number of the code point that was read, if there is one
 abbrev pub numberRead : Number → Option ℕ
-numberRead (Value v) = some v
+numberRead (Value c) = some (c .0)
 numberRead Malformed = none
+
+-- the value of the digit that was read, if it is one
+abbrev pub digitRead : Digit → Option ℕ
+digitRead (Valued v) = some v
+digitRead Undigit = none
 
 -- ---- parts
 

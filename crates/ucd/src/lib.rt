@@ -8,15 +8,16 @@ mod parts;
 
 use crate::numbers::Number;
 use crate::parts::Parts;
+use terms::CodePoint;
 ghost use Prim.Native.Nat.{_≤_};
 ghost use lib.ListN.{length};
 ghost use Rattle.terms.specs.Refusals.{partsMost};
 ghost use Rattle.ucd.specs.Promises.{Reads};
 
-// The properties that are single numbers: the code point and its titlecase.
+// The properties that are single code points: the code point itself and its titlecase.
 pub struct SimpleProperties {
-    pub code: u32,
-    pub title: u32,
+    pub code: CodePoint,
+    pub title: CodePoint,
 }
 
 // What a line gives, or the number of its refusal.

@@ -1,18 +1,26 @@
 // Code points in hex digits (document 01, "Lines of UnicodeData.txt"): fields 0 and 14, and the parts of field 5.
+use terms::CodePoint;
 ghost use mathlib.Core.Path.{_≡_};
 ghost use Rattle.ucd.specs.Fields.{digit, digits, bounded, wellSized, codePoint, titlecase};
-ghost use Rattle.ucd.specs.Promises.{numberRead};
+ghost use Rattle.ucd.specs.Promises.{numberRead, digitRead};
 
-// What octets write.
+// The code point that octets write.
 pub enum Number {
+    Value(CodePoint),
+    // None: another octet than a digit, too few or too many, a leading zero, or a value above 10FFFF hex.
+    Malformed,
+}
+
+// The value that an octet has as a hex digit.
+pub enum Digit {
     Value(u32),
-    // No number: another octet than a digit, too few or too many, a leading zero, or a value above 10FFFF hex.
+    // The octet is no digit.
     Malformed,
 }
 
 // The titlecase that field 14 gives the code point `code`: itself where the field is empty.
-pub fn read_titlecase(code: u32, t: &[u8]) -> Number
-    ensures { λ r. ⌜ numberRead r ≡ titlecase code (now (t .entry)) ⌝ }
+pub fn read_titlecase(code: CodePoint, t: &[u8]) -> Number
+    ensures { λ r. ⌜ numberRead r ≡ titlecase (code .0) (now (t .entry)) ⌝ }
 {
     if t.len() == 0 {
         return Number::Value(code);
@@ -54,7 +62,7 @@ fn read_digits(t: &[u8]) -> Number
     let mut i = 0;
     while i < t.len() {
         let read = read_digit(t[i]);
-        let Number::Value(d) = read else {
+        let Digit::Value(d) = read else {
             return Number::Malformed;
         };
         value = value * 16 + d;
@@ -63,25 +71,25 @@ fn read_digits(t: &[u8]) -> Number
         }
         i += 1;
     }
-    Number::Value(value)
+    Number::Value(CodePoint(value))
 }
 
 // The value of a digit.
-fn read_digit(octet: u8) -> Number
-    ensures { λ r. ⌜ numberRead r ≡ digit octet ⌝ }
+fn read_digit(octet: u8) -> Digit
+    ensures { λ r. ⌜ digitRead r ≡ digit octet ⌝ }
 {
     let o = octet as u32;
     if o < 0x30 {
-        return Number::Malformed;
+        return Digit::Malformed;
     }
     if o <= 0x39 {
-        return Number::Value(o - 0x30);
+        return Digit::Value(o - 0x30);
     }
     if o < 0x41 {
-        return Number::Malformed;
+        return Digit::Malformed;
     }
     if o <= 0x46 {
-        return Number::Value(o - 0x37);
+        return Digit::Value(o - 0x37);
     }
-    Number::Malformed
+    Digit::Malformed
 }

@@ -51,7 +51,7 @@ fn read_listed(t: &[u8], parts: &mut [u32]) -> Parts
         let Number::Value(c) = read else {
             return Parts::Malformed;
         };
-        parts[count] = c;
+        parts[count] = c.0;
         count += 1;
         if end == t.len() {
             return Parts::Count(count);

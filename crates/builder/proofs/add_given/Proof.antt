@@ -27,7 +27,7 @@ clean : (c : tie.Else1) → surrogate (given (start-of c)) ≡ false
 clean c = sym (c .before .has-surrogate .ensures) ∙ c .if1 .left
 
 abbrev was-clean : tie.Else2 → tie.Else1
-was-clean c = c .before .before .before
+was-clean c = c .before .before .before .before
 
 above : (c : tie.Else2)
     → let s = start-of (was-clean c) in
@@ -63,7 +63,7 @@ refused-requires-2 c κs = search needs
 returns-2 : tie.Need-returns-2
 unfolding propertiesRefusal
 returns-2 c =
-    let d = c .before .before .before .before in
+    let d = c .before .before .before .before .before in
     rw (c .refused2 .ensures) (addedBy-refused (before (start-of d)) (rw (clean d, lt-ltb _ _ (c .before .if2 .taken))))
 
 is-crowded-requires : tie.Need-is-crowded-requires

@@ -50,7 +50,7 @@ at-code c = c .before .before .before
 abbrev line-coded : tie.After-known-told → List ℕ
 line-coded c = line-of (at-length (at-fields (at-code c)))
 
-coded : (c : tie.After-known-told) → codePoint (field 0 (line-coded c)) ≡ some (c .before .read .given .0 .0)
+coded : (c : tie.After-known-told) → codePoint (field 0 (line-coded c)) ≡ some (c .before .read .given .0 .0 .0)
 coded c = sym (code (at-code c)) ∙ ap numberRead (c .before .read .given .1)
 
 -- field 5 was read, and lists parts
@@ -84,7 +84,7 @@ abbrev at-listed : tie.After-read-titlecase → tie.After-known-told2
 at-listed c = c .before .before
 
 abbrev code-of : tie.After-known-told2 → ℕ
-code-of c = at-coded (at-parts c) .before .read .given .0 .0
+code-of c = at-coded (at-parts c) .before .read .given .0 .0 .0
 
 title : (c : tie.After-read-titlecase)
     → numberRead (c .read-titlecase .result) ≡ titlecase (code-of (at-listed c)) (field 14 (line-listed (at-listed c)))
@@ -203,7 +203,7 @@ returns-6 c =
     let d = at-listed r in
     let at = at-fields (at-code (at-coded (at-parts d))) in
     let code : codePoint (field 0 (line-listed d)) ≡ some (code-of d) = coded (at-coded (at-parts d)) in
-    let cased : titlecase (code-of d) (field 14 (line-listed d)) ≡ some (c .before .cased .given .0 .0) =
+    let cased : titlecase (code-of d) (field 14 (line-listed d)) ≡ some (c .before .cased .given .0 .0 .0) =
     sym (title r) ∙ ap numberRead (c .before .cased .given .1) in
     record {
       unrefused = rw (short (at-length at), whole at, code, listed d, optional-titlecase (code-of d) (field 14 (line-listed d)), cased);

@@ -35,13 +35,13 @@ maps c = sym (c .before .says-nothing .ensures) ∙ c .if1 .left
 
 -- where its code point and its titlecase are scalar: the parts decide
 abbrev mapped : tie.Else3 Inv-loop μ-loop → tie.Else1 Inv-loop μ-loop
-mapped c = c .before .before .before .before
+mapped c = c .before .before .before .before .before .before
 
 decide : (c : tie.Else3 Inv-loop μ-loop)
     → let p = given (start-of (mapped c)) in
     surrogate p ≡ not (all scalar (p .parts))
 decide c =
-    let code = c .before .before in
+    let code = c .before .before .before in
     simp (
       maps (mapped c),
       sym (code .before .is-scalar .ensures) ∙ not-false _ (code .if2 .left),
@@ -60,7 +60,7 @@ is-scalar-requires c κs = search needs
 
 -- the code point
 returns-2 : tie.Need-returns-2 Inv-loop μ-loop
-returns-2 c = simp (maps (c .before .before), sym (c .before .is-scalar .ensures) ∙ not-true _ (c .if2 .taken))
+returns-2 c = simp (maps (c .before .before .before), sym (c .before .is-scalar .ensures) ∙ not-true _ (c .if2 .taken))
 
 is-scalar-requires-2 : tie.Need-is-scalar-requires-2 Inv-loop μ-loop
 is-scalar-requires-2 c κs = search needs
@@ -69,7 +69,7 @@ is-scalar-requires-2 c κs = search needs
 returns-3 : tie.Need-returns-3 Inv-loop μ-loop
 returns-3 c =
     simp (
-      maps (c .before .before .before .before),
+      maps (c .before .before .before .before .before .before),
       sym (c .before .is-scalar2 .ensures) ∙ not-true _ (c .if3 .taken),
       and-false,
     )

@@ -20,7 +20,7 @@ given s = withParts (s .args .simple) (s .args .parts .now)
 
 -- where the line has a mapping: the entry and its parts fit
 abbrev start-of : tie.Else1 → tie.Start
-start-of c = c .before .before .before .before .before .before
+start-of c = c .before .before .before .before .before .before .before .before
 
 maps : (c : tie.Else1) → saysNothing (given (start-of c)) ≡ false
 maps c = sym (c .before .says-nothing .ensures) ∙ c .if1 .left
@@ -57,8 +57,8 @@ put-entry-requires c κs = omega (arith, fits (c .before))
 put-at-requires : tie.Need-put-at-requires
 put-at-requires c κs = omega (arith, fits (c .before .before .before .before .before))
 
-add-t9 : tie.Need-add-t9
-add-t9 c = omega (arith, fits (stored c))
+add-t11 : tie.Need-add-t11
+add-t11 c = omega (arith, fits (stored c))
 
 add-t21 : tie.Need-add-t21
 add-t21 c = omega (arith, fits (stored c))
@@ -88,7 +88,7 @@ store-spec =
     cast-put-entry-2
     put-entry-requires
     put-at-requires
-    add-t9
+    add-t11
     add-t21
     same-length
     same-length-2

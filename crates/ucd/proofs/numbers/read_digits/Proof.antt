@@ -10,7 +10,7 @@ use mathlib.Core.List.{List}
 use borrow.Author.Tests.{le-leb}
 use lib.ListN.{length, drop, getD, drop-of-length-le}
 use Rattle.ucd.specs.Fields.{digit, digits, bounded}
-use Rattle.ucd.specs.Promises.{numberRead}
+use Rattle.ucd.specs.Promises.{digitRead}
 use Rattle.ucd.proofs.Digits.{digit-small, digits-nil, digits-more, digits-none, bounded-digits-above}
 use Rattle.ucd.proofs.numbers.read_digits.Statement.{statement}
 use Rattle.ucd.proofs.numbers.read_digits.Tie as tie
@@ -31,7 +31,7 @@ abbrev head : tie.After-known-told Inv-loop μ-loop → tie.At-loop Inv-loop μ-
 head c = c .before .before .before .before .before .before
 
 read : (c : tie.After-known-told Inv-loop μ-loop) → digit (getD (text-of (head c)) (head c .loop .i) 0) ≡ some (c .before .read .given .0 .0)
-read c = sym (c .before .before .before .read-digit .ensures) ∙ ap numberRead (c .before .read .given .1)
+read c = sym (c .before .before .before .read-digit .ensures) ∙ ap digitRead (c .before .read .given .1)
 
 small : (c : tie.After-known-told Inv-loop μ-loop) → c .before .read .given .0 .0 < 16
 small c = digit-small (getD (text-of (head c)) (head c .loop .i) 0) (c .before .read .given .0 .0) (read c)
@@ -68,7 +68,7 @@ returns c =
     let l = called .before .before .before in
     let t = l .before .before .args .t .now in
     let e : digit (getD t (l .loop .i) 0) ≡ none =
-    sym (called .read-digit .ensures) ∙ ap numberRead (c .enum-told .given .1) in
+    sym (called .read-digit .ensures) ∙ ap digitRead (c .enum-told .given .1) in
     sym (l .loop .inv .2 ∙ ap bounded (digits-none (l .loop .value) t (l .loop .i) (called .before .before .loop-test .taken) e))
 
 mul-value : tie.Need-mul-value Inv-loop μ-loop

@@ -44,7 +44,7 @@ abbrev was-read : tie.After-known-told Inv-loop μ-loop → tie.After-read-code-
 was-read d = d .before .before .before
 
 abbrev code : tie.After-known-told Inv-loop μ-loop → ℕ
-code d = d .before .read .given .0 .0
+code d = d .before .read .given .0 .0 .0
 
 written : (d : tie.After-known-told Inv-loop μ-loop)
     → let l = head (was-read d) in
