@@ -4,4 +4,5 @@ pub mod Injective
 pub mod Lists
 pub mod Lowest
 pub mod Parts
+pub mod Same
 pub mod Tests

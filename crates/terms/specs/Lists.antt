@@ -1,6 +1,7 @@
 -- Lists and tests that the definitions of all crates are written with: tests over a whole list, the lowest index that
--- passes a test, a list of lists as one, and a buffer after something was written into it.
+-- passes a test, a list of lists as one, two lists compared, and a buffer after something was written into it.
 -- Assumes nothing.
+use mathlib.Core.Path.{_≡_}
 use Prim.Native.Nat.{ℕ, zero, suc, _+_}
 use mathlib.Core.Bool.{Bool, true, false, _&&_}
 use mathlib.Core.Option.{Option, none, some}
@@ -53,6 +54,19 @@ unfoldable pub begins : List ℕ → List ℕ → Bool
 begins [] ys = true
 begins (x ∷ xs) [] = false
 begins (x ∷ xs) (y ∷ ys) = eqb x y && begins xs ys
+
+-- one of the elements of a list
+pub record In {A : Type 0} (x : A) (xs : List A) : Type 0 where
+  pub before : List A
+  pub after : List A
+  pub split : xs ≡ before ++ x ∷ after
+
+-- two lists have the same elements in the same order
+unfoldable pub same : List ℕ → List ℕ → Bool
+same [] [] = true
+same [] (y ∷ ys) = false
+same (x ∷ xs) [] = false
+same (x ∷ xs) (y ∷ ys) = eqb x y && same xs ys
 
 -- a buffer after a list was written into it from its start: the list, and the rest as before
 abbrev pub over : List ℕ → List ℕ → List ℕ

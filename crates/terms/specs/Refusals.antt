@@ -71,6 +71,11 @@ pub data Outcome : Type 0 where
   refused : Refusal → Outcome
   gives : List ℕ → Outcome
 
+-- an answer that is no refusal: values were given
+abbrev pub Given : Outcome → Type 0
+Given (refused r) = ⊥
+Given (gives values) = Unit {0}
+
 -- the answer of a call: the refusal if a check applies, and else the values
 abbrev pub answer : Option Refusal → List ℕ → Outcome
 answer none values = gives values
