@@ -1,11 +1,16 @@
--- The order of lists of octets is a total order: its ties are exactly the equal lists, it turns round with its arguments, and it is
--- transitive. A proper prefix is less, and else the first octet that differs decides.
+-- The order of lists of octets is a total order: its ties are exactly the equal lists, it turns round with its arguments, and
+-- it is transitive. A proper prefix is less, and else the first octet that differs decides.
 -- Assumes nothing.
-use Prim.Native.Nat.{ℕ, zero, suc, _<_, compare, Ordering, Ordering·lt, Ordering·eq, Ordering·gt, compare·zero-zero, compare·zero-suc, compare·suc-zero, compare·suc-suc}
+use Prim.Native.Nat.{ℕ, zero, suc, _<_, compare, Ordering, Ordering·lt, Ordering·eq, Ordering·gt, compare·zero-zero}
+use Prim.Native.Nat.{compare·zero-suc, compare·suc-zero, compare·suc-suc}
 use native.Mathlib.Omega.{arith}
 use mathlib.Core.Path.{_≡_, refl, sym, ap, _∙_}
+use mathlib.Core.Bool.{Bool, true, false}
 use mathlib.Core.Logic.{_⊎_, inl, inr}
 use mathlib.Core.List.{List, [], _∷_, _++_}
+use lib.Dec.{isEq}
+use Rattle.terms.specs.Lists.{same}
+use Rattle.terms.proofs.Same.{same-refl, same-exactly}
 use Rattle.octets.specs.Order.{andThen, orderOf}
 
 -- an order with its two sides exchanged
@@ -97,6 +102,21 @@ order-equal (x ∷ a) [] e = cc
 order-equal (x ∷ a) (y ∷ b) e =
     let both : (compare x y ≡ Ordering·eq) × (orderOf a b ≡ Ordering·eq) = then-equal (compare x y) (orderOf a b) e in
     cc (compare-equal x y (both .0), order-equal a b (both .1))
+
+-- so keys tie exactly where they are the same
+pub order-same : (a b : List ℕ) → isEq (orderOf a b) ≡ same a b
+order-same a b = go (orderOf a b) refl
+  where
+    differ : (o : Ordering) → orderOf a b ≡ o → isEq o ≡ false → (t : Bool) → same a b ≡ t → false ≡ t
+    differ o e f false q = refl
+    differ o e f true q =
+        let tie : orderOf a b ≡ Ordering·eq = rw (same-exactly a b .0 q) (order-refl b) in
+        sym (rw (sym e, tie) at f)
+
+    go : (o : Ordering) → orderOf a b ≡ o → isEq o ≡ same a b
+    go Ordering·lt e = differ Ordering·lt e refl (same a b) refl
+    go Ordering·eq e = rw (order-equal a b e) (sym (same-refl b))
+    go Ordering·gt e = differ Ordering·gt e refl (same a b) refl
 
 flip-then : (o p : Ordering) → flip (andThen o p) ≡ andThen (flip o) (flip p)
 flip-then Ordering·lt p = refl

@@ -1,5 +1,5 @@
--- `octets::put_octets` meets its contract. The loop's invariant: the octets so far are written. The measure is the octets that are
--- left.
+-- `octets::put_octets` meets its contract. The loop's invariant: the octets so far are written. The measure is the octets
+-- that are left.
 -- Assumes nothing.
 use mathlib.Core.Path.{_≡_}
 use Prim.Native.Nat.{_≤_, _-_}
