@@ -13,7 +13,7 @@ use lib.Seq.{drop-append-seam}
 use Rattle.terms.specs.Lists.{all, each}
 use Rattle.terms.proofs.Lists.{all-first, all-rest}
 use Rattle.utf8.specs.Characters.{codesOf, Decodes, characters-nil, characters-more}
-use Rattle.utf8.specs.Utf8.{scalar, encode, encodes, Character, character, decode, characters}
+use Rattle.utf8.specs.Utf8.{scalar, encode, encodes, Character, character, decode, characters, asCharacters, Encodes}
 use Rattle.utf8.proofs.Encode.{encode-width}
 use Rattle.utf8.proofs.Decode.{decode-encode, decode-sound}
 use Rattle.utf8.proofs.Decoders.{characters-cons, characters-empty, characters-scalars}
@@ -28,10 +28,6 @@ utf8-decodes = record { fits = fits; scalars = λ t ch e. decode-sound t ch e .i
         let most = length-append (encode (ch .code)) (drop (ch .width) t) in
         omega (arith, s .wide, encode-width (ch .code) .0, ap length (s .octets), most)
 
--- code points as characters, each as wide as its octets
-abbrev pub asCharacters : List ℕ → List Character
-asCharacters cs = map (λ (c : ℕ). character c (length (encode c))) cs
-
 -- the encoding of scalar code points has just these for its characters
 pub characters-encodes : (cs : List ℕ) → all scalar cs ≡ true → characters (encodes cs) ≡ some (asCharacters cs)
 unfolding each
@@ -40,12 +36,6 @@ characters-encodes (c ∷ cs) e =
     let first = decode-encode c (encodes cs) (all-first scalar c cs e) in
     characters-more utf8-decodes (encode c ++ encodes cs) (character c (length (encode c))) first
     ∙ rw (drop-append-seam (encode c) (encodes cs), characters-encodes cs (all-rest scalar c cs e))
-
--- a text is the encoding of scalar code points, and these are its characters
-pub record Encodes (t : List ℕ) (chs : List Character) : Type 0 where
-  pub scalars : all scalar (codesOf chs) ≡ true
-  pub octets : t ≡ encodes (codesOf chs)
-  pub widths : chs ≡ asCharacters (codesOf chs)
 
 sound : (t : List ℕ) (chs : List Character) → characters t ≡ some chs → Encodes t chs
 unfolding each
@@ -65,7 +55,8 @@ pub characters-exactly : (t : List ℕ) (chs : List Character) → (characters t
 characters-exactly t chs = (sound t chs, is-there)
   where
     is-there : Encodes t chs → characters t ≡ some chs
-    is-there s = ap (λ (l : List ℕ). characters l) (s .octets) ∙ characters-encodes (codesOf chs) (s .scalars) ∙ ap some (sym (s .widths))
+    is-there s =
+        ap (λ (l : List ℕ). characters l) (s .octets) ∙ characters-encodes (codesOf chs) (s .scalars) ∙ ap some (sym (s .widths))
 
 codes : (cs : List ℕ) → codesOf (asCharacters cs) ≡ cs
 codes [] = refl

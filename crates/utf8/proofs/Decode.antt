@@ -1,5 +1,5 @@
--- `decode` by the first octet; the octets of a scalar code point decode to it, whatever follows them; what decodes is a scalar code
--- point whose octets the text begins with; so no code point's octets begin another's.
+-- `decode` by the first octet; the octets of a scalar code point decode to it, whatever follows them; what decodes is a
+-- scalar code point whose octets the text begins with; so no code point's octets begin another's.
 -- Assumes nothing.
 use mathlib.Core.Path.{_≡_, refl, sym, _∙_, ap, subst}
 use mathlib.Core.Bool.{Bool, true, false, _&&_, not}
@@ -14,7 +14,8 @@ use lib.Seq.{drop-append-seam}
 use borrow.Author.Tests.{ltb-true, ltb-false, lt-ltb, le-ltb, le-leb, lt-leb}
 use Rattle.terms.proofs.Tests.{join, none-some}
 use Rattle.utf8.specs.Utf8.{scalar, encode, Character, character, trailed, taken, decode}
-use Rattle.utf8.proofs.Encode.{encode-one, scalar-most, highBits, trailing, length-trailing, Lead, leadsTwo, leadsThree, leadsFour, encode-longer, longer}
+use Rattle.utf8.proofs.Encode.{encode-one, scalar-most, highBits, trailing, length-trailing, Lead, leadsTwo}
+use Rattle.utf8.proofs.Encode.{leadsThree, leadsFour, encode-longer, longer}
 use Rattle.utf8.proofs.Trailed.{trailed-trailing, trailed-some, taken-yes, taken-some}
 
 -- ---- decode by the first octet
@@ -42,7 +43,8 @@ decode-longer a x n least t (leadsTwo e h) =
     simp (le-ltb a 0x80 (omega arith), le-ltb a 0xC0 (omega arith), lt-ltb a 0xE0 (omega arith), bits)
 decode-longer a x n least t (leadsThree e h) =
     let bits : a - 0xE0 ≡ x = omega arith in
-    simp (le-ltb a 0x80 (omega arith), le-ltb a 0xC0 (omega arith), le-ltb a 0xE0 (omega arith), lt-ltb a 0xF0 (omega arith), bits)
+    simp
+    (le-ltb a 0x80 (omega arith), le-ltb a 0xC0 (omega arith), le-ltb a 0xE0 (omega arith), lt-ltb a 0xF0 (omega arith), bits)
 decode-longer a x n least t (leadsFour e h) =
     let bits : a - 0xF0 ≡ x = omega arith in
     simp (
@@ -106,7 +108,8 @@ decoded t rest c w ch s o e is =
 -- a code point below 80 is scalar
 scalar-low : (c : ℕ) → c < 0x80 → scalar c ≡ true
 scalar-low c h =
-    join (leb c 0x10FFFF) (not (leb 0xD800 c && leb c 0xDFFF)) (le-leb c 0x10FFFF (omega arith)) (rw (lt-leb 0xD800 c (omega arith)))
+    join (leb c 0x10FFFF) (not (leb 0xD800 c && leb c 0xDFFF)) (le-leb c 0x10FFFF (omega arith))
+    (rw (lt-leb 0xD800 c (omega arith)))
 
 sound-one : (a : ℕ) (t : List ℕ) (ch : Character) → a < 0x80 → decode (a ∷ t) ≡ some ch → Decoded (a ∷ t) ch
 sound-one a t ch h e =
@@ -128,16 +131,19 @@ pub decode-sound : (t : List ℕ) (ch : Character) → decode t ≡ some ch → 
 decode-sound [] ch e = absurd (none-some ch (sym decode-nil ∙ e))
 decode-sound (a ∷ t) ch e = by (ltb a 0x80) (ltb a 0xC0) (ltb a 0xE0) (ltb a 0xF0) (ltb a 0xF8) refl refl refl refl refl
   where
-    by : (p q r s u : Bool) → ltb a 0x80 ≡ p → ltb a 0xC0 ≡ q → ltb a 0xE0 ≡ r → ltb a 0xF0 ≡ s → ltb a 0xF8 ≡ u → Decoded (a ∷ t) ch
+    by : (p q r s u : Bool) → ltb a 0x80 ≡ p → ltb a 0xC0 ≡ q → ltb a 0xE0 ≡ r → ltb a 0xF0 ≡ s → ltb a 0xF8 ≡ u
+        → Decoded (a ∷ t) ch
     by true q r s u f g h k m = sound-one a t ch (ltb-true a 0x80 f) e
     by false true r s u f g h k m =
         absurd (none-some ch (sym (decode-trail a t (ltb-false a 0x80 f) (ltb-true a 0xC0 g)) ∙ e))
     by false false true s u f g h k m =
         sound-longer a (a - 0xC0) 1 0x80 t ch (leadsTwo (omega (arith, ltb-false a 0xC0 g)) (omega (arith, ltb-true a 0xE0 h))) e
     by false false false true u f g h k m =
-        sound-longer a (a - 0xE0) 2 0x800 t ch (leadsThree (omega (arith, ltb-false a 0xE0 h)) (omega (arith, ltb-true a 0xF0 k))) e
+        sound-longer a (a - 0xE0) 2 0x800 t ch
+        (leadsThree (omega (arith, ltb-false a 0xE0 h)) (omega (arith, ltb-true a 0xF0 k))) e
     by false false false false true f g h k m =
-        sound-longer a (a - 0xF0) 3 0x10000 t ch (leadsFour (omega (arith, ltb-false a 0xF0 k)) (omega (arith, ltb-true a 0xF8 m))) e
+        sound-longer a (a - 0xF0) 3 0x10000 t ch
+        (leadsFour (omega (arith, ltb-false a 0xF0 k)) (omega (arith, ltb-true a 0xF8 m))) e
     by false false false false false f g h k m = absurd (none-some ch (sym (decode-high a t (ltb-false a 0xF8 m)) ∙ e))
 
 -- ---- no code point's octets begin another's

@@ -15,7 +15,8 @@ use Rattle.terms.specs.CodePoints.{scalar}
 use Rattle.terms.specs.Lists.{all, there}
 use Rattle.terms.proofs.Lists.{all-cons}
 use Rattle.terms.proofs.Tests.{none-some}
-use Rattle.utf8.specs.Characters.{Character, codesOf, Decoder, Decodes, prepend, charactersBy, characters-nil, characters-more, characters-none}
+use Rattle.utf8.specs.Characters.{Character, codesOf, Decoder, Decodes, prepend, charactersBy, characters-nil}
+use Rattle.utf8.specs.Characters.{characters-more, characters-none}
 
 -- what a character before others came from
 prepend-some : (ch : Character) (o : Option (List Character)) (chs : List Character) → prepend ch o ≡ some chs
@@ -53,8 +54,11 @@ module _ {decode : Decoder} (d : Decodes decode) where
   characters-cons [] ch chs e = let z : _≡_ {A = ℕ} 0 1 = cc (characters-nil d) in absurd (omega arith)
   characters-cons (a ∷ t) ch chs e =
       let f = first (a ∷ t) (ch ∷ chs) (omega arith) e in
-      let same : f .ch ≡ ch = cc in
-      (f .decoded ∙ ap some same, ap (λ (x : Character). charactersBy decode (drop (x .width) (a ∷ t))) (sym same) ∙ f .follow ∙ cc)
+      let same : f .ch ≡ ch = cc in (
+        f .decoded ∙ ap some same,
+        ap (λ (x : Character). charactersBy decode (drop (x .width) (a ∷ t)))
+            (sym same) ∙ f .follow ∙ cc,
+      )
 
   -- a text whose characters are none is empty
   pub characters-empty : (t : List ℕ) → charactersBy decode t ≡ some [] → t ≡ []
@@ -72,7 +76,8 @@ module _ {decode : Decoder} (d : Decodes decode) where
       omega (arith, characters-count (drop (ch .width) t) chs (f .1), d .fits t ch (f .0), length-drop (ch .width) t)
 
   -- and they are scalar
-  pub characters-scalars : (t : List ℕ) (chs : List Character) → charactersBy decode t ≡ some chs → all scalar (codesOf chs) ≡ true
+  pub characters-scalars : (t : List ℕ) (chs : List Character) → charactersBy decode t ≡ some chs
+      → all scalar (codesOf chs) ≡ true
   characters-scalars t [] e = refl
   characters-scalars t (ch ∷ chs) e =
       let f = characters-cons t ch chs e in

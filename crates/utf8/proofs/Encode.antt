@@ -96,7 +96,8 @@ pub length-trailing : (n c : ℕ) → length (trailing n c) ≡ n
 length-trailing zero c = refl
 length-trailing (suc n) c = ap suc (length-trailing n c)
 
--- what a first octet a from C0 to F7 says: it carries the bits x, n octets trail, and least is the lowest code point that needs them
+-- what a first octet a from C0 to F7 says: it carries the bits x, n octets trail, and least is the lowest code point that
+-- needs them
 pub data Lead (a x : ℕ) : ℕ → ℕ → Type 0 where
   leadsTwo : a ≡ 0xC0 + x → x < 0x20 → Lead a x 1 0x80
   leadsThree : a ≡ 0xE0 + x → x < 0x10 → Lead a x 2 0x800

@@ -12,7 +12,8 @@ use lib.ListN.{length, drop, getD, length-drop}
 use lib.Seq.{getD-drop}
 use Rattle.terms.specs.Lists.{there}
 use Rattle.utf8.specs.Utf8.{encode, Character, character, decode}
-use Rattle.utf8.proofs.Encode.{Width, inOne, inTwo, inThree, inFour, widthOf, encode-one, encode-two, encode-three, encode-four, scalar-most, sixes}
+use Rattle.utf8.proofs.Encode.{Width, inOne, inTwo, inThree, inFour, widthOf, encode-one, encode-two, encode-three}
+use Rattle.utf8.proofs.Encode.{encode-four, scalar-most, sixes}
 use Rattle.utf8.proofs.Decode.{decode-sound}
 use Rattle.utf8.proofs.Trailed.{Between}
 

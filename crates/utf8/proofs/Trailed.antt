@@ -80,7 +80,8 @@ pub trailed-trailing : (n c : ℕ) (t : List ℕ) → trailed n (highBits n c) (
 trailed-trailing zero c t = trailed-zero c t
 trailed-trailing (suc n) c t =
     let high = highBits n c in
-    trailed-cons n (high / 64) (0x80 + high % 64) high (trailing n c ++ t) (trails-yes (0x80 + high % 64) (omega arith)) (omega arith)
+    trailed-cons n (high / 64) (0x80 + high % 64) high (trailing n c ++ t) (trails-yes (0x80 + high % 64) (omega arith))
+    (omega arith)
     ∙ trailed-trailing n c t
 
 -- and octets that trail after the bits x are those of the number that they come to, of which x are the high bits

@@ -28,8 +28,8 @@ codesOf chs = map (λ (ch : Character). ch .code) chs
 abbrev pub Decoder : Type 0
 Decoder = List ℕ → Option Character
 
--- what every decoder must have: a character takes an octet or more and no more than there are (so there is none in no octets), and
--- its code point is scalar
+-- what every decoder must have: a character takes an octet or more and no more than there are (so there is none in no
+-- octets), and its code point is scalar
 pub record Decodes (decode : Decoder) : Type 0 where
   pub fits : (t : List ℕ) (ch : Character) → decode t ≡ some ch → (1 ≤ ch .width) × (ch .width ≤ length t)
   pub scalars : (t : List ℕ) (ch : Character) → decode t ≡ some ch → scalar (ch .code) ≡ true
@@ -62,14 +62,16 @@ charactersBy decode t = charactersAfter decode 0 t
 -- ---- charactersBy
 
 -- octets that still belong to the character before are passed over
-charactersAfter-drop : (decode : Decoder) (k : ℕ) (t : List ℕ) → k ≤ length t → charactersAfter decode k t ≡ charactersBy decode (drop k t)
+charactersAfter-drop : (decode : Decoder) (k : ℕ) (t : List ℕ) → k ≤ length t
+    → charactersAfter decode k t ≡ charactersBy decode (drop k t)
 unfolding charactersAfter charactersBy
 charactersAfter-drop decode zero t h = refl
 charactersAfter-drop decode (suc k) [] h = absurd (omega arith)
 charactersAfter-drop decode (suc k) (a ∷ t) h = charactersAfter-drop decode k t (omega arith)
 
 before-some : (decode : Decoder) (c w a : ℕ) (t : List ℕ) → 1 ≤ w → w ≤ length (a ∷ t)
-    → before (some (character c w)) (λ k. charactersAfter decode k t) ≡ prepend (character c w) (charactersBy decode (drop w (a ∷ t)))
+    → before (some (character c w)) (λ k. charactersAfter decode k t) ≡ prepend (character c w)
+    (charactersBy decode (drop w (a ∷ t)))
 before-some decode c zero a t l h = absurd (omega arith)
 before-some decode c (suc k) a t l h = ap (prepend (character c (suc k))) (charactersAfter-drop decode k t (omega arith))
 

@@ -2,13 +2,15 @@
 -- `proofs/Characters.antt` shows that a text has characters exactly when it is the encoding of scalar code points, one after
 -- another; so no overlong form, no surrogate, nothing above U+10FFFF and nothing cut off is a character.
 -- Assumes nothing.
+use mathlib.Core.Path.{_≡_}
 use Prim.Native.Nat.{ℕ, zero, suc, _+_, _-_, _*_, _/_, _%_}
-use mathlib.Core.Bool.{Bool, cond, _&&_}
+use mathlib.Core.Bool.{Bool, true, cond, _&&_}
 use mathlib.Core.Option.{Option, none, some}
-use mathlib.Core.List.{List, [], _∷_}
+use mathlib.Core.List.{List, [], _∷_, map}
 use lib.Dec.{leb, ltb}
-use Rattle.terms.specs.Lists.{each, when}
-use Rattle.utf8.specs.Characters.{charactersBy}
+use lib.ListN.{length}
+use Rattle.terms.specs.Lists.{all, each, when}
+use Rattle.utf8.specs.Characters.{codesOf, charactersBy}
 pub use Rattle.terms.specs.CodePoints.{scalar}
 pub use Rattle.utf8.specs.Characters.{Character, character}
 
@@ -52,3 +54,16 @@ decode (a ∷ t) =
 -- the characters of a text, or none: "A text is valid if it is UTF-8 by RFC 3629"
 abbrev pub characters : List ℕ → Option (List Character)
 characters t = charactersBy decode t
+
+-- ---- the same by encoding
+
+-- code points as characters, each as wide as its octets
+abbrev pub asCharacters : List ℕ → List Character
+asCharacters cs = map (λ (c : ℕ). character c (length (encode c))) cs
+
+-- a text is the encoding of scalar code points, and these are its characters: of exactly such texts `characters` gives them
+-- (`characters-exactly` of proofs/Characters.antt)
+pub record Encodes (t : List ℕ) (chs : List Character) : Type 0 where
+  pub scalars : all scalar (codesOf chs) ≡ true
+  pub octets : t ≡ encodes (codesOf chs)
+  pub widths : chs ≡ asCharacters (codesOf chs)

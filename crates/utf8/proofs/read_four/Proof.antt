@@ -177,7 +177,8 @@ returns-4 c =
     let w = at-two t in
     let p : trails (third w) ≡ false = sym (c .before .is-trailing2 .ensures) ∙ c .if3 .left in
     let stops =
-    trailed-stops 1 1 (two-bits w) (third w) (start w .args .rest .now) (omega (arith, long w)) (w .before .before .wide2 .ensures) p in
+    trailed-stops 1 1 (two-bits w) (third w) (start w .args .rest .now) (omega (arith, long w))
+    (w .before .before .wide2 .ensures) p in
     sym (ap (taken 4 0x10000) (second-trailed t ∙ stops))
 
 -- the second octet does not trail
@@ -187,7 +188,8 @@ returns-5 c =
     let p : trails (second w) ≡ false = sym (c .before .is-trailing .ensures) ∙ c .if2 .left in
     let a = start w .args in
     let stops =
-    trailed-stops 2 0 (a .x) (second w) (a .rest .now) (omega (arith, long w)) (w .before .before .before .before .wide .ensures) p in
+    trailed-stops 2 0 (a .x) (second w) (a .rest .now) (omega (arith, long w))
+    (w .before .before .before .before .wide .ensures) p in
     sym (ap (taken 4 0x10000) stops)
 
 pub read-four-spec : {M : Type 1} → statement M

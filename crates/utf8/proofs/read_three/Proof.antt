@@ -112,7 +112,8 @@ returns-2 c =
     let w = at-three t in
     let a = start w .args in
     let code = a .x * 4096 + (second w - 0x80) * 64 + (third w - 0x80) in
-    let third-trailed = trailed-more 0 1 (two-bits w) (third w) code (a .rest .now) (long w) (w .wide2 .ensures) (third-trails t) (omega arith) in
+    let third-trailed = trailed-more 0 1 (two-bits w) (third w) code (a .rest .now) (long w) (w .wide2 .ensures)
+    (third-trails t) (omega arith) in
     c .accept .ensures
     ∙ sym (ap (taken 3 0x800) (second-trailed (t .before .before) ∙ third-trailed ∙ trailed-zero code (drop 2 (a .rest .now))))
 

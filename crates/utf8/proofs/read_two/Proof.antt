@@ -53,7 +53,8 @@ returns-2 c =
     let w = c .before .before .before in
     let a = start w .args in
     let rest = a .rest .now in
-    let more = trailed-more 0 0 (a .x) (w .wide .result) _ rest (w .before .before .if1 .left) (w .wide .ensures) (second-trails (c .before)) refl in
+    let more = trailed-more 0 0 (a .x) (w .wide .result) _ rest (w .before .before .if1 .left) (w .wide .ensures)
+    (second-trails (c .before)) refl in
     c .accept .ensures ∙ sym (ap (taken 2 0x80) (more ∙ trailed-zero _ (drop 1 rest)))
 
 -- the second octet does not trail
@@ -62,7 +63,8 @@ returns-3 c =
     let w = c .before .before in
     let a = start w .args in
     let p = sym (c .before .is-trailing .ensures) ∙ c .if2 .left in
-    sym (ap (taken 2 0x80) (trailed-stops 0 0 (a .x) (w .wide .result) (a .rest .now) (w .before .before .if1 .left) (w .wide .ensures) p))
+    sym (ap (taken 2 0x80)
+    (trailed-stops 0 0 (a .x) (w .wide .result) (a .rest .now) (w .before .before .if1 .left) (w .wide .ensures) p))
 
 pub read-two-spec : {M : Type 1} → statement M
 read-two-spec =

@@ -192,7 +192,8 @@ returns-4 c =
       octets =
           rw
           (four c)
-          (sets-eq ((0xF0 + n / 262144) ∷ (0x80 + n / 4096 % 64) ∷ (0x80 + n / 64 % 64) ∷ (0x80 + n % 64) ∷ []) (a .out .now) 0 (four-room c));
+          (sets-eq ((0xF0 + n / 262144) ∷ (0x80 + n / 4096 % 64) ∷ (0x80 + n / 64 % 64) ∷ (0x80 + n % 64) ∷ [])
+          (a .out .now) 0 (four-room c));
     }
 
 pub write-character-spec : {M : Type 1} → statement M
