@@ -10,9 +10,11 @@ use lib.Dec.{leb, eqb}
 use lib.ListN.{getD}
 use Rattle.terms.specs.Lists.{lowest, orElse, when}
 use Rattle.terms.proofs.Lowest.{lowest-cong}
-use Rattle.table.specs.Layout.{entryWidth, Entry, entryNumbers, entryCount, wholeEntries, numberAt, codeAt, titleAt, startAt, countAt, putEntry, firstEntries}
+use Rattle.table.specs.Layout.{entryWidth, Entry, entryNumbers, entryCount, wholeEntries, numberAt, codeAt, titleAt}
+use Rattle.table.specs.Layout.{startAt, countAt, putEntry, firstEntries}
 use Rattle.table.specs.Table.{notAbove, countsBelow, entryOf}
-use Rattle.table.proofs.Entries.{entryCount-putEntry, numberAt-putEntry, numberAt-putEntry-other, numberAt-firstEntries, entryCount-firstEntries, wholeEntries-firstEntries}
+use Rattle.table.proofs.Entries.{entryCount-putEntry, numberAt-putEntry, numberAt-putEntry-other}
+use Rattle.table.proofs.Entries.{numberAt-firstEntries, entryCount-firstEntries, wholeEntries-firstEntries}
 
 -- the first n entries after one more was written behind them
 abbrev pub appendEntry : ℕ → Entry → List ℕ → List ℕ
@@ -88,7 +90,8 @@ module _ (n : ℕ) (e : Entry) (es : List ℕ) (room : n < entryCount es) where
   countAt-last = numberAt-last 3 (omega arith)
 
   -- the entry of a code point: the one before, or else the new one
-  pub entryOf-append : (c : ℕ) → entryOf (appendEntry n e es) c ≡ orElse (entryOf (firstEntries n es) c) (when (eqb (e .code) c) n)
+  pub entryOf-append : (c : ℕ)
+      → entryOf (appendEntry n e es) c ≡ orElse (entryOf (firstEntries n es) c) (when (eqb (e .code) c) n)
   unfolding entryOf lowest
   entryOf-append c =
       let before = entryCount-firstEntries n es (omega arith) in

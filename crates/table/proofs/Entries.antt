@@ -5,6 +5,7 @@ use Prim.Native.Nat.{ℕ, _+_, _*_, _%_, _≤_, _<_}
 use native.Mathlib.Omega.{arith}
 use native.Mathlib.Decide.{decLt}
 use mathlib.Core.Bool.{true}
+use mathlib.Core.Logic.{_↔_}
 use mathlib.Core.List.{List}
 use lib.ListN.{length, getD}
 use lib.Seq.{length-take-le, getD-take}
@@ -22,6 +23,11 @@ entryCount-most es = omega arith
 pub length-whole : (es : List ℕ) → wholeEntries es ≡ true → entryCount es * entryWidth ≡ length es
 unfolding entryCount wholeEntries
 length-whole es e = omega (arith, eqb-true (length es % entryWidth) 0 e)
+
+-- there are whole entries exactly when the length is a multiple of 4
+pub whole-exactly : (es : List ℕ) → (wholeEntries es ≡ true) ↔ (length es % 4 ≡ 0)
+unfolding wholeEntries
+whole-exactly es = (eqb-true (length es % entryWidth) 0, eq-eqb (length es % entryWidth) 0)
 
 -- ---- an entry was written
 

@@ -1,5 +1,5 @@
--- What a table of the form has, `formRefusal t ≡ none`: its code points are scalar and ascend, each entry's parts are at most 32, lie
--- in the pool and are scalar; and where `entryOf` finds an entry.
+-- What a table of the form has, `formRefusal t ≡ none`: its code points are scalar and ascend, each entry's parts are at most
+-- 32, lie in the pool and are scalar; and where `entryOf` finds an entry.
 -- Assumes nothing.
 use Prim.Native.Nat.{ℕ, zero, suc, _+_, _≤_, _<_}
 use native.Mathlib.Omega.{arith}
@@ -19,7 +19,8 @@ use Rattle.terms.proofs.Checks.{or-left, or-right, orElse-neither, when-none}
 use Rattle.terms.proofs.Lists.{all-cons}
 use Rattle.terms.proofs.Lowest.{lowest-is, lowest-some, lowest-none, lowest-nowhere}
 use Rattle.table.specs.Layout.{entryCount, wholeEntries, codeAt, titleAt, startAt, countAt}
-use Rattle.table.specs.Table.{Table, faultySize, notAbove, faultyCode, faultyEntry, poolLeft, faultyNumber, refusedAt, entryFault, formRefusal, entryOf, titleIn, titleOf, partsIn, partsOf}
+use Rattle.table.specs.Table.{Table, faultySize, notAbove, faultyCode, faultyEntry, poolLeft, faultyNumber, refusedAt}
+use Rattle.table.specs.Table.{entryFault, formRefusal, entryOf, titleIn, titleOf, partsIn, partsOf}
 use Rattle.table.specs.Promises.{Ascending}
 
 -- ---- none of the checks applies
@@ -45,7 +46,8 @@ formed t e =
     let o5 = entryFault t in
     let o6 = lowest (faultyNumber (t .pool)) (length (t .pool)) in
     let h3 = orElse-neither (check (faultySize t) 3 0 0) _ e in
-    let h4 = orElse-neither (refusedAt 4 (lowest (faultyCode (t .entries)) count)) (orElse (refusedAt 5 o5) (orElse (refusedAt 6 o6) none))
+    let h4 = orElse-neither (refusedAt 4 (lowest (faultyCode (t .entries)) count))
+    (orElse (refusedAt 5 o5) (orElse (refusedAt 6 o6) none))
     (h3 .1) in
     let h5 = orElse-neither (refusedAt 5 o5) (orElse (refusedAt 6 o6) none) (h4 .1) in
     let h6 = orElse-neither (refusedAt 6 o6) none (h5 .1) in

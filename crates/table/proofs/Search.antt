@@ -1,5 +1,5 @@
--- What is left of a search for a code point, `Candidates es c low size`: how a look at an entry makes less of it, and what it says of
--- `entryOf` at its end.
+-- What is left of a search for a code point, `Candidates es c low size`: how a look at an entry makes less of it, and what it
+-- says of `entryOf` at its end.
 -- Assumes nothing.
 use Prim.Native.Nat.{ℕ, _+_, _≤_, _<_}
 use native.Mathlib.Omega.{arith}

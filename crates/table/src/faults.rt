@@ -1,4 +1,5 @@
-// What 3 to 6 find in a table (document 01, "Refusals"), each by itself: whether a thing is faulty, and the lowest that is.
+// What 3 to 6 find in a table (document 01, "Refusal numbers"), each by itself: whether a thing is faulty, and the lowest that
+// is.
 use crate::Place;
 use crate::layout;
 ghost use mathlib.Core.Path.{_≡_};

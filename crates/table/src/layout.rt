@@ -6,7 +6,8 @@ use terms::CodePoint;
 ghost use mathlib.Core.Path.{_≡_};
 ghost use Prim.Native.Nat.{_<_, _≤_};
 ghost use lib.Dec.{eqb};
-ghost use Rattle.table.specs.Layout.{entryWidth, entry, entryCount, wholeEntries, numberAt, codeAt, titleAt, startAt, countAt, putEntry, firstEntries};
+ghost use Rattle.table.specs.Layout.{entryWidth, entry, entryCount, wholeEntries, numberAt, codeAt, titleAt, startAt};
+ghost use Rattle.table.specs.Layout.{countAt, putEntry, firstEntries};
 
 // How many numbers an entry has.
 pub const ENTRY_WIDTH: usize = 4;

@@ -45,7 +45,8 @@ loop-again c =
       omega arith,
       ⊎-elim
           (λ w. rw (w .1) (candidates-up (l .inv .1) (omega arith) (rw read at (w .0 .taken))))
-          (λ w. rw (w .1) (candidates-down up (l .inv .1) (l .first + l .left / 2) (omega arith) (omega arith) (rw read at (w .0 .left))))
+          (λ w. rw (w .1)
+          (candidates-down up (l .inv .1) (l .first + l .left / 2) (omega arith) (omega arith) (rw read at (w .0 .left))))
           (c .if1 .came),
     )
 

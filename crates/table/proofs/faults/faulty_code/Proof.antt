@@ -1,5 +1,5 @@
--- `table::faults::faulty_code` meets its contract. The loop's invariant: `i` is at most the number of entries, and no entry below it
--- is faulty. The measure is the number of entries that are left. Assumes nothing.
+-- `table::faults::faulty_code` meets its contract. The loop's invariant: `i` is at most the number of entries, and no entry
+-- below it is faulty. The measure is the number of entries that are left. Assumes nothing.
 use Prim.Native.Nat.{ℕ, _≤_, _<_, _-_}
 use native.Mathlib.Omega.{arith}
 use mathlib.Core.Path.{_≡_, sym, _∙_}

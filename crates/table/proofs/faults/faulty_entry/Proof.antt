@@ -1,5 +1,6 @@
--- `table::faults::faulty_entry` meets its contract. The loop's invariant: `i` is at most the number of entries, no entry below it is
--- faulty, and `sum` is the sum of their counts, each at most 32. The measure is the number of entries that are left.
+-- `table::faults::faulty_entry` meets its contract. The loop's invariant: `i` is at most the number of entries, no entry
+-- below it is faulty, and `sum` is the sum of their counts, each at most 32. The measure is the number of entries that are
+-- left.
 -- Assumes nothing.
 use Prim.Native.Nat.{ℕ, _+_, _*_, _≤_, _<_, _-_}
 use native.Mathlib.Numerals.{add-one}

@@ -1,5 +1,5 @@
--- `table::faults::faulty_number` meets its contract. The loop's invariant: `i` is at most the length of the pool, and each number below it
--- is scalar. The measure is what is left of the length. Assumes nothing.
+-- `table::faults::faulty_number` meets its contract. The loop's invariant: `i` is at most the length of the pool, and each
+-- number below it is scalar. The measure is what is left of the length. Assumes nothing.
 use Prim.Native.Nat.{ℕ, _≤_, _<_, _-_}
 use native.Mathlib.Omega.{arith}
 use mathlib.Core.Path.{_≡_, sym}
