@@ -11,7 +11,7 @@ use lib.Dec.{eqb}
 use lib.ListN.{length, take, drop, getD, length-drop, drop-of-length-le}
 use lib.Seq.{drop-length, getD-drop, drop-drop}
 use borrow.Author.Tests.{eq-eqb, ne-eqb}
-use Rattle.ucd.specs.Fields.{grow, cut}
+use Rattle.ucd.specs.Fields.{grow, cut, times}
 use Rattle.ucd.specs.Promises.{pieceEnd}
 use Rattle.ucd.proofs.Walks.{drop-one}
 
@@ -95,6 +95,17 @@ cut-next sep t at h =
 length-grow : (sep o : ℕ) (os : List ℕ) → length (grow o (cut sep os)) ≡ length (cut sep os)
 length-grow sep o os = rw (cut-step sep os)
 
+-- one piece more than there are separators
+pub length-cut : (sep : ℕ) (t : List ℕ) → length (cut sep t) ≡ suc (times sep t)
+unfolding cut times
+length-cut sep [] = refl
+length-cut sep (o ∷ os) = go (eqb o sep) (length-cut sep os)
+  where
+    go : (b : Bool) → length (cut sep os) ≡ suc (times sep os)
+        → length (cond b ([] ∷ cut sep os) (grow o (cut sep os))) ≡ suc (cond b (suc (times sep os)) (times sep os))
+    go true e = ap suc e
+    go false e = length-grow sep o os ∙ e
+
 -- at the end there is one piece
 pub length-cut-end : (sep : ℕ) (t : List ℕ) (i : ℕ) → length t ≤ i → length (cut sep (drop i t)) ≡ 1
 unfolding cut
@@ -140,7 +151,8 @@ pub stands-here : {sep : ℕ} {t : List ℕ} {i at : ℕ}
     → getD (cut sep t) i [] ≡ take (pieceEnd sep (drop at t)) (drop at t)
 stands-here {sep} {t} {i} {at} s =
     let e : getD (drop i (cut sep t)) 0 [] ≡ getD (cut sep t) (i + 0) [] = getD-drop i (cut sep t) 0 [] in
-    let p : getD (drop i (cut sep t)) 0 [] ≡ take (pieceEnd sep (drop at t)) (drop at t) = rw (s .rest, cut-step sep (drop at t)) in
+    let p : getD (drop i (cut sep t)) 0 [] ≡ take (pieceEnd sep (drop at t)) (drop at t) = rw
+    (s .rest, cut-step sep (drop at t)) in
     ap (λ (n : ℕ). getD (cut sep t) n []) (sym (add-zero i)) ∙ sym e ∙ p
 
 -- the next piece stands after the separator

@@ -16,7 +16,8 @@ use Rattle.terms.specs.Refusals.{partsMost}
 use Rattle.ucd.specs.Fields.{cut, codePoint, codePoints, tag, untagged, someParts, decomposition, optional, titlecase}
 use Rattle.ucd.specs.Promises.{pieceEnd}
 use Rattle.ucd.proofs.Walks.{empty-yes, empty-no}
-use Rattle.ucd.proofs.Cutting.{after, cut-step, cut-last, cut-more, cut-next, Stands, stands-first, stands-more, stands-count, stands-end}
+use Rattle.ucd.proofs.Cutting.{after, cut-step, cut-last, cut-more, cut-next, Stands, stands-first, stands-more}
+use Rattle.ucd.proofs.Cutting.{stands-count, stands-end}
 
 -- ---- code points before others
 
@@ -102,7 +103,8 @@ module _ {t parts : List ℕ} {at count : ℕ} (w : Lists t parts at count) wher
         → codePoints (cut 0x20 t) ≡ prepend (take (count + 1) (set parts count c)) (codePoints ps)
     one-more ps s =
         let xs = take count parts in
-        let front : xs ++ (c ∷ []) ≡ take (count + 1) (set parts count c) = rw (add-one count) (sym (take-suc-set parts count c room)) in
+        let front : xs ++ (c ∷ []) ≡ take (count + 1) (set parts count c) = rw (add-one count)
+        (sym (take-suc-set parts count c room)) in
         w .listed
         ∙ ap (λ (l : List (List ℕ)). prepend xs (codePoints l)) s
         ∙ ap (prepend xs) (codePoints-cons (pieceAt t at) ps c e)

@@ -1,6 +1,6 @@
 -- The fields of a line of UnicodeData.txt: field 0 the code point, 5 the decomposition, 14 the titlecase.
 -- Assumes nothing.
-use Prim.Native.Nat.{ℕ, _+_, _-_, _*_}
+use Prim.Native.Nat.{ℕ, suc, _+_, _-_, _*_}
 use mathlib.Core.Bool.{Bool, cond, _&&_, _||_, not}
 use mathlib.Core.Option.{Option, none, some, Option·map, bind}
 use mathlib.Core.List.{List, [], _∷_}
@@ -20,6 +20,15 @@ grow o (p ∷ ps) = (o ∷ p) ∷ ps
 unfoldable pub cut : ℕ → List ℕ → List (List ℕ)
 cut sep [] = [] ∷ []
 cut sep (o ∷ os) = cond (eqb o sep) ([] ∷ cut sep os) (grow o (cut sep os))
+
+-- how often an octet stands in a line: there is one piece more (`length-cut` of proofs/Cutting.antt)
+unfoldable pub times : ℕ → List ℕ → ℕ
+times sep [] = 0
+times sep (o ∷ os) = cond (eqb o sep) (suc (times sep os)) (times sep os)
+
+-- the semicolons of a line (21)
+abbrev pub semicolons : List ℕ → ℕ
+semicolons line = times 0x3B line
 
 -- the fields of a line, between semicolons
 abbrev pub fields : List ℕ → List (List ℕ)

@@ -1,8 +1,9 @@
 -- A line of UnicodeData.txt: the properties that it gives its code point, and the checks of its reading (20 to 24).
 -- Assumes nothing.
+use mathlib.Core.Path.{_≡_}
 use Prim.Native.Nat.{ℕ}
 use mathlib.Core.Bool.{Bool, _&&_, not}
-use mathlib.Core.Option.{Option, Option·map, bind}
+use mathlib.Core.Option.{Option, some, Option·map, bind}
 use mathlib.Core.List.{List, [], _∷_}
 use lib.Dec.{ltb, eqb}
 use lib.ListN.{length}
@@ -28,7 +29,14 @@ withParts s parts = record { code = s .code .0; title = s .title .0; parts = par
 unfoldable pub lineProperties : List ℕ → Option Properties
 lineProperties line =
     bind (codePoint (field 0 line))
-    (λ c. bind (decomposition (field 5 line)) (λ ps. Option·map (λ t. record { code = c; title = t; parts = ps }) (titlecase c (field 14 line))))
+    (λ c. bind (decomposition (field 5 line))
+    (λ ps. Option·map (λ t. record { code = c; title = t; parts = ps }) (titlecase c (field 14 line))))
+
+-- the same by each field: what a line says
+pub record LineSays (line : List ℕ) (p : Properties) : Type 0 where
+  pub code : codePoint (field 0 line) ≡ some (p .code)
+  pub parts : decomposition (field 5 line) ≡ some (p .parts)
+  pub title : titlecase (p .code) (field 14 line) ≡ some (p .title)
 
 -- "Lines that say nothing (no parts, titlecase none or itself ..)"
 abbrev pub saysNothing : Properties → Bool

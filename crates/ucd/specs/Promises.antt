@@ -1,5 +1,5 @@
--- What the contracts of the inner functions cite: where a piece ends, the answers of reading as options, and what a line's reading
--- answers.
+-- What the contracts of the inner functions cite: where a piece ends, the answers of reading as options, and what a line's
+-- reading answers.
 -- Assumes nothing.
 use mathlib.Core.Path.{_≡_}
 use Prim.Native.Nat.{ℕ, suc, _≤_}

@@ -1,5 +1,5 @@
-// Lines of UnicodeData.txt (document 01, "Lines of UnicodeData.txt"; UAX #44 for the fields): the properties that a line gives its
-// code point, or the first of the refusals 20 to 24.
+// Lines of UnicodeData.txt (document 01, "Lines of UnicodeData.txt"; UAX #44 for the fields): the properties that a line
+// gives its code point, or the first of the refusals 20 to 24.
 //
 // The definitions stand in specs/. Any octets get an answer.
 mod fields;

@@ -206,7 +206,8 @@ returns-6 c =
     let cased : titlecase (code-of d) (field 14 (line-listed d)) ≡ some (c .before .cased .given .0 .0 .0) =
     sym (title r) ∙ ap numberRead (c .before .cased .given .1) in
     record {
-      unrefused = rw (short (at-length at), whole at, code, listed d, optional-titlecase (code-of d) (field 14 (line-listed d)), cased);
+      unrefused =
+          rw (short (at-length at), whole at, code, listed d, optional-titlecase (code-of d) (field 14 (line-listed d)), cased);
       given = lineProperties-some _ _ _ _ code (listed d) cased;
       within = few d;
     }

@@ -26,7 +26,9 @@ piece-end-requires : tie.Need-piece-end-requires Inv-loop μ-loop
 piece-end-requires c κs = c .before .loop .inv .1 .within
 
 add-start : tie.Need-add-start Inv-loop μ-loop
-add-start c = omega (arith, c .piece-end .ensures, stands-most (c .before .before .loop .inv .1), c .before .before .before .before .good .0)
+add-start c =
+    omega
+    (arith, c .piece-end .ensures, stands-most (c .before .before .loop .inv .1), c .before .before .before .before .good .0)
 
 add-i : tie.Need-add-i Inv-loop μ-loop
 add-i c = omega (arith, c .before .before .before .before .fits .k)
@@ -61,7 +63,8 @@ returns c =
     let l = c .before .before .before in
     let line = l .before .before .args .line .now in
     let start = l .loop .start in
-    let wide : c .before .piece-end2 .result - start ≡ pieceEnd 0x3B (drop start line) = omega (arith, c .before .piece-end2 .ensures) in
+    let wide : c .before .piece-end2 .result - start ≡ pieceEnd 0x3B (drop start line) = omega
+    (arith, c .before .piece-end2 .ensures) in
     let here : l .loop .i ≡ l .before .before .args .k = omega (arith, l .loop .inv .0, c .before .before .loop-test .left) in
     rw (wide, ← here) (sym (stands-here (l .loop .inv .1)))
 

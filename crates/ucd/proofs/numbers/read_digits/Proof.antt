@@ -30,7 +30,8 @@ text-of l = l .before .before .args .t .now
 abbrev head : tie.After-known-told Inv-loop μ-loop → tie.At-loop Inv-loop μ-loop
 head c = c .before .before .before .before .before .before
 
-read : (c : tie.After-known-told Inv-loop μ-loop) → digit (getD (text-of (head c)) (head c .loop .i) 0) ≡ some (c .before .read .given .0 .0)
+read : (c : tie.After-known-told Inv-loop μ-loop)
+    → digit (getD (text-of (head c)) (head c .loop .i) 0) ≡ some (c .before .read .given .0 .0)
 read c = sym (c .before .before .before .read-digit .ensures) ∙ ap digitRead (c .before .read .given .1)
 
 small : (c : tie.After-known-told Inv-loop μ-loop) → c .before .read .given .0 .0 < 16
@@ -103,7 +104,8 @@ returns-3 : tie.Need-returns-3 Inv-loop μ-loop
 returns-3 c =
     let l = c .before in
     let v = l .loop .value in
-    let e : digits v (drop (l .loop .i) (text-of l)) ≡ some v = rw (drop-of-length-le (text-of l) (c .loop-test .left)) (digits-nil v) in
+    let e : digits v (drop (l .loop .i) (text-of l)) ≡ some v = rw (drop-of-length-le (text-of l) (c .loop-test .left))
+    (digits-nil v) in
     sym (l .loop .inv .2 ∙ ap bounded e ∙ simp (le-leb v 0x10FFFF (l .loop .inv .1)))
 
 pub read-digits-spec : {M : Type 1} → statement M

@@ -1,5 +1,5 @@
--- `ucd::parts::read_listed` meets its contract. The loop's invariant: the parts so far stand in the slice, and a walk stands at the
--- next piece. The measure is how many more parts may be.
+-- `ucd::parts::read_listed` meets its contract. The loop's invariant: the parts so far stand in the slice, and a walk stands
+-- at the next piece. The measure is how many more parts may be.
 -- Assumes nothing.
 use mathlib.Core.Path.{_≡_, refl, sym, _∙_, ap}
 use Prim.Native.Nat.{ℕ, _≤_, _<_, _+_, _-_}

@@ -34,7 +34,8 @@ tag-of : (q : tie.After-is-tag) → q .is-tag .result ≡ tag (take (pieceEnd 0x
 tag-of q = rw (ends (tested q)) at (q .is-tag .ensures)
 
 -- where more follows the tag
-more : (c : tie.Else3) → c .before .before .before .before .piece-end .result < length (text-of (c .before .before .before .before))
+more : (c : tie.Else3)
+    → c .before .before .before .before .piece-end .result < length (text-of (c .before .before .before .before))
 more c = omega (arith, c .if3 .left, within (c .before .before .before .before))
 
 -- an empty field
