@@ -38,9 +38,11 @@ module _ (b : Built) (line : List ℕ) (p : Properties) (taken : accepted b line
   next-accepted = ap (λ (x : Built). x .state .next) (addLine-accepted b line p taken) ∙ next-added b p
 
   -- of its code point the table has what it gives, of the others what it had before
-  builtProperties-accepted : Grown b → (c : ℕ) → builtProperties (addLine b line) c ≡ cond (eqb (p .code) c) p (builtProperties b c)
+  builtProperties-accepted : Grown b → (c : ℕ)
+      → builtProperties (addLine b line) c ≡ cond (eqb (p .code) c) p (builtProperties b c)
   builtProperties-accepted g c =
-      ap (λ (x : Built). builtProperties x c) (addLine-accepted b line p taken) ∙ tableProperties-added b p g (passes b line p taken) c
+      ap (λ (x : Built). builtProperties x c) (addLine-accepted b line p taken)
+      ∙ tableProperties-added b p g (passes b line p taken) c
 
 -- ---- a sequence of lines
 

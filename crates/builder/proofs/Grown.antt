@@ -1,5 +1,6 @@
--- What holds of a table that the builder has grown, cut to what is used: its entries pass 4 and 5 and stand below the next code point,
--- and its pool is exactly the parts of the entries. A table of no entries is grown, and so is a grown one with one more line.
+-- What holds of a table that the builder has grown, cut to what is used: its entries pass 4 and 5 and stand below the next
+-- code point, and its pool is exactly the parts of the entries. A table of no entries is grown, and so is a grown one with
+-- one more line.
 -- Assumes nothing.
 use mathlib.Core.Path.{_≡_, refl, sym, _∙_, ap, ap₂}
 use Prim.Native.Nat.{ℕ, zero, suc, _+_, _≤_, _<_}
@@ -20,7 +21,8 @@ use Rattle.table.specs.Table.{Table, notAbove, faultyCode, countsBelow, faultyE
 use Rattle.table.proofs.Written.{length-putAt, take-putAt}
 use Rattle.table.proofs.Entries.{entryCount-putEntry}
 use Rattle.table.proofs.Form.{sound-fits}
-use Rattle.table.proofs.Appending.{codeAt-before, titleAt-before, startAt-before, countAt-before, countsBelow-before, notAbove-before, codeAt-last, titleAt-last, startAt-last, countAt-last}
+use Rattle.table.proofs.Appending.{codeAt-before, titleAt-before, startAt-before, countAt-before, countsBelow-before}
+use Rattle.table.proofs.Appending.{notAbove-before, codeAt-last, titleAt-last, startAt-last, countAt-last}
 use Rattle.ucd.specs.Lines.{Properties, saysNothing}
 use Rattle.builder.specs.Builder.{Built, entryFor, appended, moved}
 use Rattle.builder.specs.Built.{startOf, cut}

@@ -17,7 +17,8 @@ use Rattle.terms.proofs.Tests.{both}
 use Rattle.table.specs.Layout.{entryCount}
 use Rattle.ucd.specs.Lines.{Properties, lineProperties, saysNothing, lineCheck, readingChecks, readingRefusal}
 use Rattle.ucd.proofs.Lines.{length-parts, lineProperties-read}
-use Rattle.builder.specs.Builder.{Built, overfull, impossible, surrogate, crowded, propertiesChecks, givenChecks, lineRefusal, unlessRefused, accepted}
+use Rattle.builder.specs.Builder.{Built, overfull, impossible, surrogate, crowded, propertiesChecks, givenChecks}
+use Rattle.builder.specs.Builder.{lineRefusal, unlessRefused, accepted}
 use Rattle.builder.specs.Promises.{Fits, NextFits, propertiesRefusal}
 
 -- numbers that are not too many have room
@@ -73,6 +74,9 @@ module _ (b : Built) (line : List ℕ) where
       let given = givenChecks (b .state) entries pool (lineProperties line) in
       let rest = orElse-neither (lineCheck (impossible (b .state) entries pool) 28) (first (readingChecks line ++ given)) e .1 in
       orElse-neither (first (readingChecks line)) (first given) (sym (first-append (readingChecks line) given) ∙ rest)
+
+  pub unrefused-reading : lineRefusal b line ≡ none → readingRefusal line ≡ none
+  unrefused-reading e = lineRefusal-none e .0
 
   -- so a line that is not refused gives something
   pub unrefused-given : lineRefusal b line ≡ none → (p : Properties) × (lineProperties line ≡ some p)

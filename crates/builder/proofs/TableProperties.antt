@@ -1,5 +1,5 @@
--- The properties that a grown table gives a code point: its own where the entries are below it; and with one more line, those of the
--- line of its code point, and of the others what they were.
+-- The properties that a grown table gives a code point: its own where the entries are below it; and with one more line, those
+-- of the line of its code point, and of the others what they were.
 -- Assumes nothing.
 use mathlib.Core.Path.{_≡_, refl, sym, _∙_, ap, ap₂}
 use Prim.Native.Nat.{ℕ, _≤_, _<_}
@@ -16,7 +16,8 @@ use Rattle.terms.proofs.Tests.{both}
 use Rattle.table.specs.Layout.{Entry, entryCount, startAt, countAt}
 use Rattle.table.specs.Table.{Table, entryOf, titleIn, titleOf, partsIn, partsOf}
 use Rattle.table.proofs.Form.{formed-fits, entryOf-none, entryOf-some}
-use Rattle.table.proofs.Appending.{titleAt-before, startAt-before, countAt-before, titleAt-last, startAt-last, countAt-last, entryOf-append}
+use Rattle.table.proofs.Appending.{titleAt-before, startAt-before, countAt-before, titleAt-last, startAt-last, countAt-last}
+use Rattle.table.proofs.Appending.{entryOf-append}
 use Rattle.ucd.specs.Lines.{Properties, saysNothing}
 use Rattle.builder.specs.Builder.{Built, entryFor, appended, moved, added}
 use Rattle.builder.specs.Built.{cut, itself}

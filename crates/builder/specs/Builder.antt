@@ -1,4 +1,5 @@
--- The builder: the refusals of a line in the paper's order, what a line leaves in the state and the two slices, and what it answers.
+-- The builder: the refusals of a line in the paper's order, what a line leaves in the state and the two slices, and what it
+-- answers.
 -- Assumes nothing.
 use mathlib.Core.Path.{_≡_}
 use Prim.Native.Nat.{ℕ, _+_}

@@ -1,5 +1,5 @@
--- The table that a sequence of lines builds, cut to what is used, and the mapping that the accepted lines mean: "Built tables hold
--- exactly the mappings of the accepted lines."
+-- The table that a sequence of lines builds, cut to what is used, and the mapping that the accepted lines mean: "Built tables
+-- hold exactly the mappings of the accepted lines."
 -- Assumes nothing.
 use mathlib.Core.Path.{_≡_}
 use Prim.Native.Nat.{ℕ}

@@ -1,4 +1,5 @@
--- What the contracts of the inner functions cite: room for so many entries and pool numbers, and what becomes of what a line gives.
+-- What the contracts of the inner functions cite: room for so many entries and pool numbers, and what becomes of what a line
+-- gives.
 -- Assumes nothing.
 use mathlib.Core.Path.{_≡_}
 use Prim.Native.Nat.{ℕ, _+_, _≤_}
@@ -9,7 +10,8 @@ use Rattle.terms.specs.Refusals.{entriesMost, poolMost, first, answer}
 use Rattle.terms.specs.declared.Refusal.{Refusal}
 use Rattle.table.specs.Layout.{entryCount}
 use Rattle.ucd.specs.Lines.{Properties}
-use Rattle.builder.specs.Builder.{Built, built, propertiesChecks, unlessRefused, addGiven, stateNumbers, lineOutcome, stateAfter}
+use Rattle.builder.specs.Builder.{Built, built, propertiesChecks, unlessRefused, addGiven, stateNumbers, lineOutcome}
+use Rattle.builder.specs.Builder.{stateAfter}
 use Rattle.builder.specs.declared.Line.{Line}
 
 -- slices of these sizes have room for so many entries and pool numbers, and no limit is passed
@@ -27,7 +29,8 @@ UsedFits b =
 -- and so have one entry more and its parts
 abbrev pub NextFits : Built → Properties → Type 0
 NextFits b p =
-    Fits (b .state .«entries_used» + 1) (b .state .«pool_used» + length (p .parts)) (entryCount (b .table .entries)) (length (b .table .pool))
+    Fits (b .state .«entries_used» + 1) (b .state .«pool_used» + length (p .parts)) (entryCount (b .table .entries))
+    (length (b .table .pool))
 
 -- a line that gives these properties was added, unless x refuses it: the answer, and the state and slices that are left
 pub record AddedBy (x : Option Refusal) (given : Option Properties) (b : Built) (r : Line) (entries pool : List ℕ) : Type 0 where

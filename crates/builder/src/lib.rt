@@ -1,5 +1,5 @@
-// A table from lines of UnicodeData.txt (document 01, "Lines of UnicodeData.txt"): each line is read by the crate ucd, and its entry
-// and parts are stored here.
+// A table from lines of UnicodeData.txt (document 01, "Lines of UnicodeData.txt"): each line is read by the crate ucd, and
+// its entry and parts are stored here.
 //
 // The definitions stand in specs/. No public function has a `requires`: any state, any octets and any slices get an answer, and
 // nothing is written unless the line is not refused.

@@ -76,7 +76,8 @@ returns c =
     let called = c .before .before in
     let b = before (entered called) in
     rw (c .refused .ensures)
-    (addedBy-line (lineRefusal-28 b _ (sym (called .is-impossible .ensures) ∙ c .before .if1 .taken)) refl (addedBy-refused b refl))
+    (addedBy-line (lineRefusal-28 b _ (sym (called .is-impossible .ensures) ∙ c .before .if1 .taken)) refl
+    (addedBy-refused b refl))
 
 slice-aggregate-read-line : tie.Need-slice-aggregate-read-line
 slice-aggregate-read-line c = search needs

@@ -1,5 +1,5 @@
--- `builder::storing::put_at` meets its contract. The loop's invariant: the slice is the copy of the numbers so far. The measure is the
--- numbers that are left.
+-- `builder::storing::put_at` meets its contract. The loop's invariant: the slice is the copy of the numbers so far. The
+-- measure is the numbers that are left.
 -- Assumes nothing.
 use mathlib.Core.Path.{_≡_, sym, _∙_, ap}
 use Prim.Native.Nat.{ℕ, _≤_, _<_, _+_, _-_}
@@ -24,7 +24,8 @@ as-long : (l : tie.At-loop Inv-loop μ-loop) → length (l .loop .out) ≡ lengt
 as-long l =
     let a = l .before .args in
     let h : a .at + l .loop .i ≤ length (a .out .now) = omega (arith, l .before .pre, l .loop .inv .0) in
-    ap (λ (o : List ℕ). length o) (l .loop .inv .1) ∙ length-paste (a .out .now) (a .at) (a .numbers .now) (l .loop .i) h (l .loop .inv .0)
+    ap (λ (o : List ℕ). length o) (l .loop .inv .1)
+    ∙ length-paste (a .out .now) (a .at) (a .numbers .now) (l .loop .i) h (l .loop .inv .0)
 
 -- nothing yet
 loop-holds : tie.Need-loop-holds Inv-loop μ-loop
