@@ -1,68 +1,70 @@
--- Demand 3, on values: "A table is accepted exactly when it has document 01's form and every code point in it unfolds within 8
--- levels into at most 32 code points. Over an accepted table a valid text of n code points takes at most 258 n lookups and has a
--- key of at most 128 n octets, and every preparation gives exactly that key and count."
+-- Demand 3, on values: which tables are accepted, where 7 finds a fault, and the bounds of the published steps.
 -- Accepted is `tableRefusal t ≡ none`: what `check_table` answers is `tableRefusal`, by its contract. That the octets which
 -- are written and the asks which are counted are those of the published steps is `write_expansion`'s contract, `ExpansionFilled`
 -- (specs/Promises.antt), and `size_expansion`'s for the numbers alone.
 -- Assumes nothing.
-use mathlib.Core.Path.{_≡_, refl, ap}
+use mathlib.Core.Path.{_≡_, refl, sym, ap, _∙_}
 use Prim.Native.Nat.{ℕ, _*_, _≤_, _<_}
 use native.Mathlib.Omega.{arith}
-use mathlib.Core.Bool.{true, false, not}
+use mathlib.Core.Bool.{Bool, true, false, not, true≢false}
 use mathlib.Core.Option.{Option, none, some}
-use mathlib.Core.List.{List}
+use mathlib.Core.List.{List, [], _∷_}
 use mathlib.Core.Logic.{_↔_}
 use lib.Dec.{leb}
 use lib.ListN.{length}
-use borrow.Author.Tests.{le-leb, not-false}
+use borrow.Author.Tests.{le-leb, not-true, not-false}
 use Rattle.terms.specs.CodePoints.{scalar}
-use Rattle.terms.specs.Lists.{all, orElse}
+use Rattle.terms.specs.Lists.{all, each, total, orElse}
 use Rattle.terms.specs.Refusals.{levelsMost, fullMost}
 use Rattle.terms.specs.declared.Refusal.{Refusal}
 use Rattle.terms.proofs.Checks.{orElse-neither}
-use Rattle.terms.proofs.Lowest.{lowest-none, lowest-nowhere}
+use Rattle.terms.proofs.Lowest.{lowest-some, lowest-none, lowest-is, lowest-nowhere}
 use Rattle.terms.proofs.Tests.{both, join}
 use Rattle.table.specs.Mapping.{Mapping}
 use Rattle.table.specs.Layout.{entryCount, codeAt}
 use Rattle.table.specs.Table.{Table, refusedAt, formRefusal, entryOf, mappingOf}
 use Rattle.table.proofs.Form.{refusedAt-none, entryOf-some, partsOf-none, formed-title-scalar, formed-parts-scalar}
 use Rattle.utf8.specs.Utf8.{Character}
-use Rattle.decompose.specs.Levels.{Level, within, full, asks}
-use Rattle.decompose.specs.Steps.{expansion, stepsKey, stepsLookups}
-use Rattle.decompose.specs.TableCheck.{unfolds, faultyLevel, levelFault, tableRefusal}
+use Rattle.decompose.specs.Levels.{within, full, asks}
+use Rattle.decompose.specs.Steps.{StepsGive, expansion, stepsKey, stepsLookups}
+use Rattle.decompose.specs.Steps.StepsGive.{no-character, character}
+use Rattle.decompose.specs.TableCheck.{unfolds, faultyLevel, levelFault, tableRefusal, UnfoldsWell, Sound, LowestUnsound}
 use Rattle.decompose.proofs.Levels.{within→level, level→within}
+use Rattle.decompose.proofs.Unfolds.{unfolds-unique, within→unfolds, level→unfolds}
 use Rattle.decompose.proofs.Bounds.{asks-most, full-most, stepsLookups-most, stepsKey-most, expansion-scalar}
 use Rattle.decompose.proofs.Walk.{unfolds-whole}
 
--- ---- "A table is accepted exactly when it has document 01's form and every code point in it unfolds within 8 levels into at
--- most 32 code points"
-
--- "To unfold completely within 8 levels is to have a level of at most 8": a code point has such a Level, and a full decomposition
--- of at most 32 code points
-pub record UnfoldsWell (m : Mapping) (c : ℕ) : Type 0 where
-  pub level : ℕ
-  pub has : Level m c level
-  pub within8 : level ≤ levelsMost
-  pub short : length (full m levelsMost c) ≤ fullMost
-
--- a table has "the form that demand 3 names", none of 3 to 6, and every entry's code point unfolds well
-pub record Sound (t : Table) : Type 0 where
-  pub form : formRefusal t ≡ none
-  pub entries : (i : ℕ) → i < entryCount (t .entries) → UnfoldsWell (mappingOf t) (codeAt (t .entries) i)
+-- ---- "accepted exactly when it has document 01's form and every code point in it unfolds completely within 8 levels into at
+-- most 32
+-- code points"
 
 -- the test of 7 says whether a code point unfolds well
 pub unfolds→well : (m : Mapping) (c : ℕ) → unfolds m c ≡ true → UnfoldsWell m c
 unfolds→well m c e =
     let leveled =
     within→level m levelsMost c (both (within m levelsMost c) (leb (length (full m levelsMost c)) fullMost) e .0) in
-    record { level = leveled .level; has = leveled .has; within8 = leveled .most; short = full-most m c e }
+    record {
+      level = leveled .level;
+      has = leveled .has;
+      within8 = leveled .most;
+      codes = full m levelsMost c;
+      asked = asks m levelsMost c;
+      unfolded = level→unfolds m (leveled .has) levelsMost (leveled .most);
+      short = full-most m c e;
+    }
 
 -- and holds where it does
 pub well→unfolds : (m : Mapping) (c : ℕ) → UnfoldsWell m c → unfolds m c ≡ true
 well→unfolds m c w =
     join (within m levelsMost c) (leb (length (full m levelsMost c)) fullMost)
     (level→within m (w .has) levelsMost (w .within8))
-    (le-leb (length (full m levelsMost c)) fullMost (w .short))
+    (le-leb (length (full m levelsMost c)) fullMost short)
+  where
+    same : w .codes ≡ full m levelsMost c
+    same = unfolds-unique m (w .unfolded) (level→unfolds m (w .has) levelsMost (w .within8)) .0
+
+    short : length (full m levelsMost c) ≤ fullMost
+    short = rw same at (w .short)
 
 -- neither of two checks applies
 neither : (a b : Option Refusal) → orElse a (orElse b none) ≡ none → (a ≡ none) × (b ≡ none)
@@ -102,6 +104,32 @@ accepted-exactly t = (accepted-sound, sound-accepted t)
       entries = λ i l. unfolds→well (mappingOf t) (codeAt (t .entries) i) (accepted-entry t e i l);
     }
 
+-- 7 finds its fault at entry i exactly when that is the lowest that does not unfold well
+pub levelFault-exactly : (t : Table) (i : ℕ) → (levelFault t ≡ some i) ↔ LowestUnsound t i
+levelFault-exactly t i = (found, is-found)
+  where
+    found : levelFault t ≡ some i → LowestUnsound t i
+    found e =
+        let lowest = lowest-some (faultyLevel t) (entryCount (t .entries)) i e in
+        let m = mappingOf t in
+        record {
+          below = lowest .below;
+          unsound = λ w. true≢false (sym (well→unfolds m (codeAt (t .entries) i) w) ∙ not-true _ (lowest .holds));
+          lower = λ j l. unfolds→well m (codeAt (t .entries) j) (not-false _ (lowest .first j l));
+        }
+
+    is-found : LowestUnsound t i → levelFault t ≡ some i
+    is-found h =
+        let m = mappingOf t in
+        lowest-is (faultyLevel t) (entryCount (t .entries)) i (h .below)
+        (go (unfolds m (codeAt (t .entries) i)) refl)
+        (λ j l. ap not (well→unfolds m (codeAt (t .entries) j) (h .lower j l)))
+      where
+        go : (b : Bool) → unfolds (mappingOf t) (codeAt (t .entries) i) ≡ b
+            → not (unfolds (mappingOf t) (codeAt (t .entries) i)) ≡ true
+        go true e = absurd (h .unsound (unfolds→well (mappingOf t) (codeAt (t .entries) i) e))
+        go false e = ap not e
+
 module _ (t : Table) (e : tableRefusal t ≡ none) where
   -- "every code point in it": of an accepted table every code point passes the test of 7, with an entry or without, so every part
   -- and every titlecase
@@ -118,7 +146,18 @@ module _ (t : Table) (e : tableRefusal t ≡ none) where
   pub accepted-level : (c : ℕ) → UnfoldsWell (mappingOf t) c
   accepted-level c = unfolds→well (mappingOf t) c (accepted-all c)
 
-  -- ---- "Over an accepted table a valid text of n code points takes at most 258 n lookups and has a key of at most 128 n octets"
+  -- ---- "for every valid text of n code points, the published steps make at most 258 n lookups and give a key of at most 128
+  -- n octets"
+
+  -- what the published steps give is what the definitions compute
+  pub accepted-steps : (chs : List Character)
+      → StepsGive (mappingOf t) chs (stepsKey (mappingOf t) chs) (stepsLookups (mappingOf t) chs)
+  unfolding stepsKey stepsLookups each total
+  accepted-steps [] = no-character
+  accepted-steps (ch ∷ chs) =
+      let m = mappingOf t in
+      let c = m .title (ch .code) in
+      character (within→unfolds m levelsMost c (both (within m levelsMost c) _ (accepted-all c) .0)) (accepted-steps chs)
 
   -- unfolding a code point is at most 257 asks
   pub accepted-asks : (c : ℕ) → asks (mappingOf t) levelsMost c ≤ 257

@@ -79,7 +79,7 @@ parts→topped m n f (p ∷ ps) e =
     record { highest = max (a .level) (b .highest); has = more (a .has) (b .has); most = omega arith }
 
 -- a list that is empty by the test
-empty-true : (xs : List ℕ) → empty xs ≡ true → xs ≡ []
+pub empty-true : (xs : List ℕ) → empty xs ≡ true → xs ≡ []
 empty-true [] e = refl
 empty-true (x ∷ xs) e = cc
 

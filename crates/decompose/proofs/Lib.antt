@@ -1,4 +1,6 @@
 pub mod Levels
+pub mod Cycles
+pub mod Unfolds
 pub mod Bounds
 pub mod Measuring
 pub mod Unfolding

@@ -1,5 +1,5 @@
--- Measuring a code point that decomposes: what it has after the first i parts, as a record on plain values with its laws, start, one
--- more, done, stop.
+-- Measuring a code point that decomposes: what it has after the first i parts, as a record on plain values with its laws,
+-- start, one more, done, stop.
 -- Assumes nothing.
 use mathlib.Core.Path.{_≡_, refl, sym, ap, _∙_}
 use Prim.Native.Nat.{ℕ, _+_, _-_, _≤_, _<_}

@@ -1,5 +1,5 @@
--- Sizing and writing a code point that decomposes: what each has after the first i parts, as a record on plain values with its laws,
--- start, one more, done.
+-- Sizing and writing a code point that decomposes: what each has after the first i parts, as a record on plain values with
+-- its laws, start, one more, done.
 -- Assumes nothing.
 use mathlib.Core.Path.{_≡_, refl, sym, ap, _∙_}
 use Prim.Native.Nat.{ℕ, suc, _+_, _-_, _≤_, _<_}
@@ -53,7 +53,8 @@ sizing-more {m} {n} {ps} {o} {a} {i} {r} w l part =
       asked = omega (arith, total-take-more (λ p. asks m n p) ps i 0 l);
     }
 
-module _ {m : Mapping} {n c : ℕ} {ps : List ℕ} (b : Bounded m n c) (s : Split m c ps) {o a i : ℕ} (w : Sizing m (n - 1) ps o a i) where
+module _ {m : Mapping} {n c : ℕ} {ps : List ℕ} (b : Bounded m n c) (s : Split m c ps) {o a i : ℕ}
+    (w : Sizing m (n - 1) ps o a i) where
   -- every part was sized: the code point is
   pub sizing-done : length ps ≤ i → Counted (full m n c) (asks m n c) (record { octets = o; asks = a })
   sizing-done l =

@@ -1,5 +1,5 @@
--- No default of a definition is reached where a contract cites it: the levels left run out for no code point that has a level of at
--- most so many, and so for none of an accepted table.
+-- No default of a definition is reached where a contract cites it: the levels left run out for no code point that has a level
+-- of at most so many, and so for none of an accepted table.
 -- Assumes nothing.
 use mathlib.Core.Path.{_≡_}
 use Prim.Native.Nat.{ℕ, _≤_}

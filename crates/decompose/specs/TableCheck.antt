@@ -1,9 +1,10 @@
--- The whole check of a table: 3 to 7 in the paper's order.
+-- The whole check of a table: 3 to 7 in the paper's order; and the tables that demand 3 says are accepted.
 -- Assumes nothing.
-use Prim.Native.Nat.{ℕ}
+use mathlib.Core.Path.{_≡_}
+use Prim.Native.Nat.{ℕ, _≤_, _<_}
 use mathlib.Core.Bool.{Bool, _&&_, not}
-use mathlib.Core.Option.{Option}
-use mathlib.Core.List.{[], _∷_}
+use mathlib.Core.Option.{Option, none}
+use mathlib.Core.List.{List, [], _∷_}
 use lib.Dec.{leb}
 use lib.ListN.{length}
 use Rattle.terms.specs.Lists.{lowest}
@@ -12,7 +13,7 @@ use Rattle.terms.specs.declared.Refusal.{Refusal}
 use Rattle.table.specs.Mapping.{Mapping}
 use Rattle.table.specs.Layout.{entryCount, codeAt}
 use Rattle.table.specs.Table.{Table, refusedAt, formRefusal, mappingOf}
-use Rattle.decompose.specs.Levels.{within, full}
+use Rattle.decompose.specs.Levels.{Level, Unfolds, within, full}
 
 -- a code point unfolds within 8 levels into at most 32 code points
 abbrev pub unfolds : Mapping → ℕ → Bool
@@ -33,3 +34,29 @@ tableRefusal t = first (formRefusal t ∷ refusedAt 7 (levelFault t) ∷ [])
 -- what checking a table by itself answers
 abbrev pub tableAnswer : Table → Outcome
 tableAnswer t = answer (tableRefusal t) []
+
+-- ---- the same in demand 3's words
+
+-- a code point "unfolds completely within 8 levels into at most 32 code points": it has a level, of at most 8, and what it
+-- unfolds into is at most 32 code points
+pub record UnfoldsWell (m : Mapping) (c : ℕ) : Type 0 where
+  pub level : ℕ
+  pub has : Level m c level
+  pub within8 : level ≤ levelsMost
+  pub codes : List ℕ
+  pub asked : ℕ
+  pub unfolded : Unfolds m c codes asked
+  pub short : length codes ≤ fullMost
+
+-- a table has "document 01's form", none of 3 to 6, "and every code point in it unfolds" so: that of every entry. (Then every
+-- code point at all does: `accepted-level` of proofs/Demand3.antt.)
+pub record Sound (t : Table) : Type 0 where
+  pub form : formRefusal t ≡ none
+  pub entries : (i : ℕ) → i < entryCount (t .entries) → UnfoldsWell (mappingOf t) (codeAt (t .entries) i)
+
+-- 7 names entry i: "an entry whose code point has no level, a level over 8, or a full decomposition over 32 code points", the
+-- "lowest such entry"
+pub record LowestUnsound (t : Table) (i : ℕ) : Type 0 where
+  pub below : i < entryCount (t .entries)
+  pub unsound : UnfoldsWell (mappingOf t) (codeAt (t .entries) i) → ⊥
+  pub lower : (j : ℕ) → j < i → UnfoldsWell (mappingOf t) (codeAt (t .entries) j)

@@ -1,4 +1,4 @@
-// Check 7 (document 01, "Refusals"): how deep and how large the code point of each entry unfolds.
+// Check 7 (document 01, "Refusal numbers"): how deep and how large the code point of each entry unfolds.
 use crate::Measurement;
 use table::layout;
 use terms::Check;
@@ -50,7 +50,8 @@ fn measure(
 ) -> Measurement
     requires { ⌜ formRefusal (table (now entries) (now pool)) ≡ none ⌝ }
     requires { ⌜ Split (mappingOf (table (now entries) (now pool))) (c .0) (now parts) ⌝ }
-    ensures { λ r. ⌜ measuredSize r ≡ measured (mappingOf (table (now (entries .entry)) (now (pool .entry)))) «levels_left» room (c .0) ⌝ }
+    ensures { λ r. ⌜ measuredSize r ≡ measured
+        (mappingOf (table (now (entries .entry)) (now (pool .entry)))) «levels_left» room (c .0) ⌝ }
 {
     if levels_left == 0 {
         return Measurement::TooMuch;

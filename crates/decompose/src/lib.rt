@@ -80,7 +80,8 @@ pub fn write_expansion(c: CodePoint, entries: &[u32], pool: &[u32], out: &mut [u
     requires { ⌜ tableRefusal (table (now entries) (now pool)) ≡ none ⌝ }
     requires { ⌜ scalar (c .0) ≡ true ⌝ }
     requires { ⌜ length (expanded (mappingOf (table (now entries) (now pool))) (c .0)) ≤ length (now out) ⌝ }
-    ensures { λ r. ⌜ ExpansionFilled (mappingOf (table (now (entries .entry)) (now (pool .entry)))) (c .0) (now (out .entry)) r (now (out .exit)) ⌝ }
+    ensures { λ r. ⌜ ExpansionFilled (mappingOf (table (now (entries .entry)) (now (pool .entry)))) (c .0)
+        (now (out .entry)) r (now (out .exit)) ⌝ }
 {
     let Place::At(i) = table::find_entry(entries, c) else {
         let octets = utf8::write_character(c, out);
@@ -162,7 +163,8 @@ fn write_unfolded(
     requires { ⌜ scalar (c .0) ≡ true ⌝ }
     requires { ⌜ Bounded (mappingOf (table (now entries) (now pool))) «levels_left» (c .0) ⌝ }
     requires { ⌜ length (encodes (full (mappingOf (table (now entries) (now pool))) «levels_left» (c .0))) ≤ length (now out) ⌝ }
-    ensures { λ r. ⌜ FullFilled (mappingOf (table (now (entries .entry)) (now (pool .entry)))) «levels_left» (c .0) (now (out .entry)) r (now (out .exit)) ⌝ }
+    ensures { λ r. ⌜ FullFilled (mappingOf (table (now (entries .entry)) (now (pool .entry)))) «levels_left» (c .0)
+        (now (out .entry)) r (now (out .exit)) ⌝ }
 {
     let mut at = 0;
     let mut asks: u64 = 1;

@@ -1,6 +1,6 @@
--- `decompose::size_unfolded` meets its contract. It calls itself for each part that decomposes, one level down; the measure of the
--- recursion is the levels left. The loop's invariant: the parts so far come to `octets` octets and, with the ask for the parts, to
--- `asked` asks (`Sizing`). The loop's measure is the number of parts that are left. Assumes nothing.
+-- `decompose::size_unfolded` meets its contract. It calls itself for each part that decomposes, one level down; the measure
+-- of the recursion is the levels left. The loop's invariant: the parts so far come to `octets` octets and, with the ask for
+-- the parts, to `asked` asks (`Sizing`). The loop's measure is the number of parts that are left. Assumes nothing.
 use Prim.Native.Nat.{ℕ, _+_, _-_, _≤_, _<_}
 use native.Mathlib.Omega.{arith}
 use mathlib.Core.Logic.{⊎-elim}

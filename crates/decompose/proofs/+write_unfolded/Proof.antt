@@ -1,7 +1,7 @@
--- `decompose::write_unfolded` meets its contract. A part with no parts of its own is written where it stands; for any other the
--- function calls itself, one level down; both are lent the slice from `at` on. The measure of the recursion is the levels left.
--- The loop's invariant: the parts so far come to `at` octets and, with the ask for the parts, to `asks` asks, and the slice begins
--- with those octets (`Writing`). The loop's measure is the number of parts that are left. Assumes nothing.
+-- `decompose::write_unfolded` meets its contract. A part with no parts of its own is written where it stands; for any other
+-- the function calls itself, one level down; both are lent the slice from `at` on. The measure of the recursion is the levels
+-- left. The loop's invariant: the parts so far come to `at` octets and, with the ask for the parts, to `asks` asks, and the
+-- slice begins with those octets (`Writing`). The loop's measure is the number of parts that are left. Assumes nothing.
 use Prim.Native.Nat.{ℕ, _+_, _-_, _≤_, _<_}
 use native.Mathlib.Omega.{arith}
 use native.Mathlib.Nat.{le-refl}
@@ -21,7 +21,8 @@ use Rattle.decompose.specs.Levels.{full}
 use Rattle.decompose.specs.Promises.{Split, Bounded, FullFilled}
 use Rattle.decompose.specs.declared.Unfolded.{Unfolded}
 use Rattle.decompose.proofs.Walk.{parts-none, encodes-whole, filled-whole, parts-some, bounded-levels, bounded-part}
-use Rattle.decompose.proofs.Unfolding.{sizing-octets, sizing-few, Writing, writing-start, writing-more, writing-done, writing-length, writing-room}
+use Rattle.decompose.proofs.Unfolding.{sizing-octets, sizing-few, Writing, writing-start, writing-more, writing-done}
+use Rattle.decompose.proofs.Unfolding.{writing-length, writing-room}
 use borrow.Fn.Kinds.{In, Out}
 use borrow.Fn.PlainCycle.{Measures, is, falls, and}
 use Rattle.decompose.proofs.write_unfolded.Reads as reads
@@ -44,7 +45,8 @@ abbrev below : ℕ → In 4 kinds.ps
 below t = and 4 kinds.ps (falls 4 kinds.ps _<_ μ-write-unfolded t) reads.Pre
 
 abbrev claims : ℕ → lts.Claims
-claims t = (parts-of-reads.Asked, parts-of-reads.Learnt, write-character-reads.Asked, write-character-reads.Learnt, below t, reads.Post)
+claims t =
+    (parts-of-reads.Asked, parts-of-reads.Learnt, write-character-reads.Asked, write-character-reads.Learnt, below t, reads.Post)
 
 abbrev Inv-loop : lts.InvT-loop
 Inv-loop levels-left parts entries pool out₀ at₀ asks₀ i₀ out at asks i =
@@ -132,7 +134,8 @@ more : (t : ℕ) (c : Of t lts.After-parts-of) (r : Unfolded) (after : List ℕ)
     (l .loop .at + r .octets)
     (l .loop .asks + r .asks)
     (l .loop .i + 1)
-    (take (l .loop .at) (l .loop .out) ++ (after ++ drop (length (l .loop .out) - l .loop .at) (drop (l .loop .at) (l .loop .out))))
+    (take (l .loop .at) (l .loop .out) ++
+    (after ++ drop (length (l .loop .out) - l .loop .at) (drop (l .loop .at) (l .loop .out))))
 more t c r after filled = writing-more (head t c .loop .inv) (taken t c) filled
 
 -- to few octets and few asks

@@ -1,6 +1,6 @@
--- `decompose::size_expansion` meets its contract: a code point without an entry is its own expansion, for two asks; with one, it is
--- the titlecase if that has no parts, for two asks too; and else the titlecase unfolds, since every code point of an accepted table
--- does.
+-- `decompose::size_expansion` meets its contract: a code point without an entry is its own expansion, for two asks; with one,
+-- it is the titlecase if that has no parts, for two asks too; and else the titlecase unfolds, since every code point of an
+-- accepted table does.
 -- Assumes nothing.
 use native.Mathlib.Omega.{arith}
 use mathlib.Core.Path.{_≡_, sym, ap, _∙_}
@@ -51,7 +51,8 @@ bounded c =
     bounded-unfolds (mappingOf (lent s)) (c .title-at .result .0) (accepted-all (lent s) (s .pre) (c .title-at .result .0))
 
 -- and where its parts were found
-parts : (c : tie.After-title-parts) → c .title-parts .result .now ≡ partsOf (lent (start (c .before))) (c .before .title-at .result .0)
+parts : (c : tie.After-title-parts)
+    → c .title-parts .result .now ≡ partsOf (lent (start (c .before))) (c .before .title-at .result .0)
 parts c = c .title-parts .ensures ∙ ap (partsOf (lent (start (c .before)))) (sym (c .before .title-at .ensures))
 
 -- the code points ascend

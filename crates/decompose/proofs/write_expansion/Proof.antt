@@ -64,7 +64,8 @@ bounded c =
     bounded-unfolds (mappingOf (lent s)) (c .title-at .result .0) (accepted-all (lent s) (s .pre .0) (c .title-at .result .0))
 
 -- where its parts were found, and where there are none
-parts : (c : tie.After-title-parts) → c .title-parts .result .now ≡ partsOf (lent (start (c .before))) (c .before .title-at .result .0)
+parts : (c : tie.After-title-parts)
+    → c .title-parts .result .now ≡ partsOf (lent (start (c .before))) (c .before .title-at .result .0)
 parts c = c .title-parts .ensures ∙ ap (partsOf (lent (start (c .before)))) (sym (c .before .title-at .ensures))
 
 plain : (c : tie.Then1) → let read = c .before .before in partsOf (lent (start read)) (read .title-at .result .0) ≡ []

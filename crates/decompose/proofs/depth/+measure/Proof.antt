@@ -1,6 +1,7 @@
--- `decompose::depth::measure` meets its contract. It calls itself for each part that decomposes, one level down; the measure of the
--- recursion is the levels left. The loop's invariant: the parts so far are within the levels left to them and come to `total` code
--- points, for which there is room (`Measuring`). The loop's measure is the number of parts that are left. Assumes nothing.
+-- `decompose::depth::measure` meets its contract. It calls itself for each part that decomposes, one level down; the measure
+-- of the recursion is the levels left. The loop's invariant: the parts so far are within the levels left to them and come to
+-- `total` code points, for which there is room (`Measuring`). The loop's measure is the number of parts that are left.
+-- Assumes nothing.
 use Prim.Native.Nat.{ℕ, _+_, _-_, _≤_, _<_}
 use native.Mathlib.Omega.{arith}
 use mathlib.Core.Path.{_≡_, sym, ap, _∙_}
@@ -15,7 +16,8 @@ use Rattle.table.specs.Mapping.{Mapping}
 use Rattle.table.specs.Table.{table, mappingOf}
 use Rattle.decompose.specs.Promises.{measured, measuredSize}
 use Rattle.decompose.proofs.Walk.{parts-none, measured-whole, parts-some}
-use Rattle.decompose.proofs.Measuring.{measuredParts, measured-parts, measured-none, Measuring, measuring-start, measuring-more, measuring-done, measuring-stop}
+use Rattle.decompose.proofs.Measuring.{measuredParts, measured-parts, measured-none, Measuring, measuring-start}
+use Rattle.decompose.proofs.Measuring.{measuring-more, measuring-done, measuring-stop}
 use borrow.Fn.Kinds.{In, Out}
 use borrow.Fn.PlainCycle.{Measures, is, falls, and}
 use Rattle.decompose.proofs.depth.measure.Reads as reads

@@ -1,6 +1,6 @@
--- `decompose::depth::check_levels` meets its contract. The loop's invariant: `i` is at most the number of entries, and the code point of
--- no entry below it has too many levels or code points; one with no parts never does. The measure is the number of entries that
--- are left. Assumes nothing.
+-- `decompose::depth::check_levels` meets its contract. The loop's invariant: `i` is at most the number of entries, and the
+-- code point of no entry below it has too many levels or code points; one with no parts never does. The measure is the number
+-- of entries that are left. Assumes nothing.
 use Prim.Native.Nat.{ℕ, _≤_, _<_, _-_}
 use native.Mathlib.Omega.{arith}
 use mathlib.Core.Path.{_≡_, refl, sym, ap, _∙_}
