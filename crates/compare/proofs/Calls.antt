@@ -3,12 +3,15 @@
 -- Assumes nothing.
 use mathlib.Core.Path.{_≡_, refl, ap}
 use Prim.Native.Nat.{ℕ, Ordering, Ordering·lt, Ordering·eq, Ordering·gt}
+use mathlib.Core.Bool.{cond}
 use mathlib.Core.Option.{Option, none, some}
 use mathlib.Core.List.{List, [], _∷_}
+use lib.Dec.{isEq}
 use Rattle.terms.specs.Refusals.{refused, gives}
 use Rattle.terms.specs.declared.Collation.{Collation}
 use Rattle.terms.specs.declared.Refusal.{Refusal}
 use Rattle.octets.specs.Order.{orderOf}
+use Rattle.octets.proofs.Order.{order-same}
 use Rattle.table.specs.Table.{Table}
 use Rattle.keys.specs.Keys.{PreparedText}
 use Rattle.keys.specs.Summaries.{shownAt}
@@ -18,7 +21,8 @@ use Rattle.prepare.specs.Preparing.{preparedValues, pairOutcome}
 use Rattle.prepare.specs.declared.PreparedPair.{PreparedPair}
 use Rattle.prepare.specs.declared.PreparedPair.the-variants.{Both}
 use Rattle.prepare.proofs.Shown.{shown-both, both-unrefused}
-use Rattle.compare.specs.Compare.{equalityOutcome, orderOutcome, orderNumber, equalityNumber, compared, orderValues, equalityValues, orderedBy, equalityBy}
+use Rattle.compare.specs.Compare.{equalityOutcome, orderOutcome, orderNumber, orderOfKeys, equalityOfKeys, compared}
+use Rattle.compare.specs.Compare.{orderValues, equalityValues, orderedBy, equalityBy}
 use Rattle.compare.specs.declared.Ordered.{Ordered}
 use Rattle.compare.specs.declared.Ordered.the-variants.{Less, Equal, Greater, Refused as Unordered}
 
@@ -36,7 +40,8 @@ pub orders-shown : {k : Collation} {t : Table} {l m : Lent} {x : Option Refusal}
     → Answers pairOutcome preparedValues x (call (some k) t (l ∷ m ∷ [])) p (sAfter ∷ tAfter ∷ [])
     → p ≡ Both one two
     → r
-    ≡ orderedBy (orderOf (shownAt (one .place) (one .«key_length») (l .text) sAfter) (shownAt (two .place) (two .«key_length») (m .text) tAfter))
+    ≡ orderedBy (orderOf (shownAt (one .place) (one .«key_length») (l .text) sAfter)
+    (shownAt (two .place) (two .«key_length») (m .text) tAfter))
     → Answers orderOutcome orderValues x (call (some k) t (l ∷ m ∷ [])) r (sAfter ∷ tAfter ∷ [])
 orders-shown h e told =
     let shown = shown-both h e in
@@ -49,7 +54,7 @@ orders-shown h e told =
 
 -- a match where the order is a tie
 equality-by-number : (r : Ordered) (o : Ordering) → orderOutcome r ≡ gives (orderNumber o ∷ [])
-    → equalityOutcome (equalityBy r) ≡ gives (equalityNumber o ∷ [])
+    → equalityOutcome (equalityBy r) ≡ gives (cond (isEq o) 1 2 ∷ [])
 equality-by-number Less Ordering·lt e = refl
 equality-by-number Less Ordering·eq e = cc
 equality-by-number Less Ordering·gt e = cc
@@ -69,12 +74,13 @@ equality-refused Greater x e = cc
 equality-refused (Unordered y) x e = e
 
 equality-by-order : (r : Ordered) (x : Option Refusal) (ps : List PreparedText)
-    → some (orderOutcome r) ≡ answerOf x (compared orderNumber ps)
-    → some (equalityOutcome (equalityBy r)) ≡ answerOf x (compared equalityNumber ps)
+    → some (orderOutcome r) ≡ answerOf x (compared orderOfKeys ps)
+    → some (equalityOutcome (equalityBy r)) ≡ answerOf x (compared equalityOfKeys ps)
 equality-by-order r (some x) ps e = ap some (equality-refused r x (cc))
 equality-by-order r none [] e = cc
 equality-by-order r none (p ∷ []) e = cc
-equality-by-order r none (p ∷ q ∷ []) e = ap some (equality-by-number r (orderOf (p .key) (q .key)) (cc))
+equality-by-order r none (p ∷ q ∷ []) e =
+    ap some (rw (← order-same (p .key) (q .key)) (equality-by-number r (orderOf (p .key) (q .key)) (cc)))
 equality-by-order r none (p ∷ q ∷ s ∷ ps) e = cc
 
 -- texts that were ordered are compared for equality

@@ -11,7 +11,8 @@ use mathlib.Core.List.{List, [], _∷_}
 use Rattle.terms.specs.Lists.{there}
 use Rattle.terms.specs.declared.Collation.the-variants.{UnicodeCasemap}
 use Rattle.octets.specs.Order.{orderOf}
-use Rattle.octets.proofs.Order.{AtMost, at-most-trans, at-most-total, order-refl, order-equal, order-flip, order-trans}
+use Rattle.octets.proofs.Order.{AtMost, at-most-trans, at-most-total, order-refl, order-equal, order-same, order-flip}
+use Rattle.octets.proofs.Order.{order-trans}
 use Rattle.utf8.specs.Utf8.{characters}
 use Rattle.table.specs.Table.{Table, mappingOf}
 use Rattle.decompose.specs.TableCheck.{tableRefusal}
@@ -20,13 +21,15 @@ use Rattle.keys.proofs.Validity.{valid-invalid-differ}
 use Rattle.prepare.specs.Calls.{Lent, call, Called}
 use Rattle.prepare.proofs.CallRefusals.{unrefused-table}
 use Rattle.compare.specs.Compare.{orderOutcome, equalityOutcome, orderValues, equalityValues, orderedBy, equalityBy}
+use Rattle.compare.specs.Compare.{OrderSays, EqualSays, flipped}
 use Rattle.compare.specs.declared.Equality.{Equality}
 use Rattle.compare.specs.declared.Equality.the-variants.{Match}
 use Rattle.compare.specs.declared.Ordered.{Ordered}
 use Rattle.compare.specs.declared.Ordered.the-variants.{Less, Equal, Greater}
 use Rattle.compare.proofs.Injective.{equalityOutcome-inj, orderOutcome-inj}
 use Rattle.compare.proofs.Calls.{orderOutcome-orderedBy}
-use Rattle.compare.proofs.Says.{OrderSays, EqualSays, flipped, equalityOutcome-orderedBy, orderedBy-equal, orderedBy-match, orderedBy-less, orderedBy-greater, orderedBy-flip, says, says-number, given-unrefused}
+use Rattle.compare.proofs.Says.{equalityOutcome-orderedBy, orderedBy-equal, orderedBy-match, orderedBy-less}
+use Rattle.compare.proofs.Says.{orderedBy-greater, orderedBy-flip, says, says-number, given-unrefused}
 
 -- keys that are the same tie
 same : {a b : List ℕ} → a ≡ b → orderOf a b ≡ Ordering·eq
@@ -41,7 +44,8 @@ module _ {p q : PreparedText} where
   -- `equal` answers by it
   pub matches-keys : {r : Equality} → EqualSays p q r → r ≡ equalityBy (orderedBy (orderOf (p .key) (q .key)))
   matches-keys {r} c =
-      let o = orderOf (p .key) (q .key) in equalityOutcome-inj r (equalityBy (orderedBy o)) (says-number c ∙ sym (equalityOutcome-orderedBy o))
+      let o = orderOf (p .key) (q .key) in equalityOutcome-inj r (equalityBy (orderedBy o))
+      (says-number c ∙ rw (← order-same (p .key) (q .key)) (sym (equalityOutcome-orderedBy o)))
 
   -- ---- ties
 
@@ -106,7 +110,8 @@ module _ {p q s : PreparedText} {r x y : Ordered} (c : OrderSays p q r) (d : Ord
       (orderedBy-less (orderOf (q .key) (s .key)) (sym (answers-keys d) ∙ j)))
 
 -- of two texts one is not Greater than the other
-pub answers-total : {p q : PreparedText} {r x : Ordered} → OrderSays p q r → OrderSays q p x → (r ≡ Greater → ⊥) ⊎ (x ≡ Greater → ⊥)
+pub answers-total : {p q : PreparedText} {r x : Ordered} → OrderSays p q r → OrderSays q p x
+    → (r ≡ Greater → ⊥) ⊎ (x ≡ Greater → ⊥)
 answers-total {p} {q} {r} {x} c d = go (at-most-total (p .key) (q .key))
   where
     go : AtMost (p .key) (q .key) ⊎ AtMost (q .key) (p .key) → (r ≡ Greater → ⊥) ⊎ (x ≡ Greater → ⊥)
@@ -132,12 +137,12 @@ module _ {t : Table} {l m : Lent} {after : List (List ℕ)} where
   pub answers-valid : Called orderOutcome orderValues (call (some UnicodeCasemap) t (l ∷ m ∷ [])) Equal after
       → there (characters (l .text)) ≡ there (characters (m .text))
   answers-valid h =
-      let accepted = unrefused-table (call (some UnicodeCasemap) t (l ∷ m ∷ [])) (given-unrefused h refl) in
-      same-validity t (l .text) (m .text) accepted (answers-tie (says h refl) .0 refl)
+      let accepted = unrefused-table (call (some UnicodeCasemap) t (l ∷ m ∷ [])) (given-unrefused h tt) in
+      same-validity t (l .text) (m .text) accepted (answers-tie (says h tt) .0 refl)
 
   -- nor does `equal` say Match
   pub matches-valid : Called equalityOutcome equalityValues (call (some UnicodeCasemap) t (l ∷ m ∷ [])) Match after
       → there (characters (l .text)) ≡ there (characters (m .text))
   matches-valid h =
-      let accepted = unrefused-table (call (some UnicodeCasemap) t (l ∷ m ∷ [])) (given-unrefused h refl) in
-      same-validity t (l .text) (m .text) accepted (matches-tie (says h refl) .0 refl)
+      let accepted = unrefused-table (call (some UnicodeCasemap) t (l ∷ m ∷ [])) (given-unrefused h tt) in
+      same-validity t (l .text) (m .text) accepted (matches-tie (says h tt) .0 refl)

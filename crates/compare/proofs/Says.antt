@@ -1,83 +1,56 @@
 -- Calls of `order` and `equal` whose answers are not refusals: what they say as an order of keys, and that nothing refused them.
 -- Assumes nothing.
-use mathlib.Core.Path.{_≡_, refl, sym}
-use mathlib.Core.Bool.{Bool, true, false, true≢false}
+use mathlib.Core.Path.{_≡_, refl}
+use mathlib.Core.Bool.{cond}
 use Prim.Native.Nat.{ℕ, Ordering, Ordering·lt, Ordering·eq, Ordering·gt}
 use mathlib.Core.Option.{none, some}
 use mathlib.Core.List.{List, [], _∷_}
-use Rattle.terms.specs.Refusals.{Outcome, refused, gives}
+use lib.Dec.{isEq}
+use Rattle.terms.specs.Refusals.{Outcome, refused, gives, Given}
 use Rattle.terms.specs.declared.Collation.{Collation}
-use Rattle.octets.specs.Order.{orderOf}
 use Rattle.octets.proofs.Order.{flip}
 use Rattle.table.specs.Table.{Table, mappingOf}
 use Rattle.keys.specs.Keys.{PreparedText, prepared}
 use Rattle.prepare.specs.Calls.{Lent, Call, call, preparedIn, callRefusal, Called}
 use Rattle.prepare.proofs.Answering.{answered-gives}
-use Rattle.compare.specs.Compare.{equalityOutcome, orderOutcome, orderNumber, equalityNumber, compared, comparedValues, orderedBy, equalityBy}
-use Rattle.compare.specs.declared.Equality.{Equality}
+use Rattle.compare.specs.Compare.{equalityOutcome, compared, comparedValues, orderedBy, equalityBy, Says, flipped}
 use Rattle.compare.specs.declared.Equality.the-variants.{Match}
 use Rattle.compare.specs.declared.Ordered.{Ordered}
 use Rattle.compare.specs.declared.Ordered.the-variants.{Less, Equal, Greater, Refused as Unordered}
 
--- ---- answers that are not refusals
-
--- values were given
-abbrev pub isGiven : Outcome → Bool
-isGiven (refused r) = false
-isGiven (gives vs) = true
-
--- a call whose two texts are prepared to these gave this answer, which is not a refusal
-pub record Says {R : Type 0} (outcome : R → Outcome) (number : Ordering → ℕ) (p q : PreparedText) (r : R) : Type 0 where
-  pub call : Call
-  pub after : List (List ℕ)
-  pub called : Called outcome (comparedValues number) call r after
-  pub texts : preparedIn call ≡ p ∷ q ∷ []
-  pub given : isGiven (outcome r) ≡ true
-
-abbrev pub OrderSays : PreparedText → PreparedText → Ordered → Type 0
-OrderSays p q r = Says orderOutcome orderNumber p q r
-
-abbrev pub EqualSays : PreparedText → PreparedText → Equality → Type 0
-EqualSays p q r = Says equalityOutcome equalityNumber p q r
+-- ---- answers that are no refusals
 
 -- the values that were given
-valuesGiven : (o : Outcome) → isGiven o ≡ true → (vs : List ℕ) × (o ≡ gives vs)
-valuesGiven (refused r) e = absurd (true≢false (sym e))
-valuesGiven (gives vs) e = (vs, refl)
+valuesGiven : (o : Outcome) → Given o → (vs : List ℕ) × (o ≡ gives vs)
+valuesGiven (refused r) g = absurd g
+valuesGiven (gives vs) g = (vs, refl)
 
-module _ {R : Type 0} {outcome : R → Outcome} {number : Ordering → ℕ} {r : R} where
+module _ {R : Type 0} {outcome : R → Outcome} {number : List ℕ → List ℕ → ℕ} {r : R} where
   -- what is not a refusal was refused by nothing
-  pub given-unrefused : {c : Call} {after : List (List ℕ)} → Called outcome (comparedValues number) c r after → isGiven (outcome r) ≡ true
+  pub given-unrefused : {c : Call} {after : List (List ℕ)} → Called outcome (comparedValues number) c r after → Given (outcome r)
       → callRefusal c ≡ none
   given-unrefused h given = let v = valuesGiven (outcome r) given in answered-gives h (v .0) (v .1) .0
 
   -- from the contract
   pub says : {k : Collation} {t : Table} {l m : Lent} {after : List (List ℕ)}
       → Called outcome (comparedValues number) (call (some k) t (l ∷ m ∷ [])) r after
-      → isGiven (outcome r) ≡ true
+      → Given (outcome r)
       → Says outcome number (prepared k (mappingOf t) (l .text)) (prepared k (mappingOf t) (m .text)) r
   says {k} {t} {l} {m} {after} h given =
       record { call = call (some k) t (l ∷ m ∷ []); after = after; called = h; texts = refl; given = given }
 
   -- what it tells
-  pub says-number : {p q : PreparedText} → Says outcome number p q r → outcome r ≡ gives (number (orderOf (p .key) (q .key)) ∷ [])
+  pub says-number : {p q : PreparedText} → Says outcome number p q r → outcome r ≡ gives (number (p .key) (q .key) ∷ [])
   says-number {p} {q} c =
       let v = valuesGiven (outcome r) (c .given) in
       let told = answered-gives (c .called) (v .0) (v .1) .1 in
       let is : compared number (p ∷ q ∷ []) ≡ some (v .0) = rw (c .texts) at told in
-      let same : number (orderOf (p .key) (q .key)) ∷ [] ≡ v .0 = cc in
+      let same : number (p .key) (q .key) ∷ [] ≡ v .0 = cc in
       rw same (v .1)
 
 -- ---- the answer is the order of the keys
 
--- an answer with its two texts exchanged
-abbrev pub flipped : Ordered → Ordered
-flipped Less = Greater
-flipped Equal = Equal
-flipped Greater = Less
-flipped (Unordered r) = Unordered r
-
-pub equalityOutcome-orderedBy : (o : Ordering) → equalityOutcome (equalityBy (orderedBy o)) ≡ gives (equalityNumber o ∷ [])
+pub equalityOutcome-orderedBy : (o : Ordering) → equalityOutcome (equalityBy (orderedBy o)) ≡ gives (cond (isEq o) 1 2 ∷ [])
 equalityOutcome-orderedBy Ordering·lt = refl
 equalityOutcome-orderedBy Ordering·eq = refl
 equalityOutcome-orderedBy Ordering·gt = refl

@@ -1,14 +1,15 @@
 -- What equality and order answer, in the paper's numbers. `Called` of the crate prepare says the rest of such a call.
 -- Assumes nothing.
+use mathlib.Core.Path.{_≡_}
 use Prim.Native.Nat.{ℕ, Ordering, Ordering·lt, Ordering·eq, Ordering·gt}
 use mathlib.Core.Bool.{cond}
 use mathlib.Core.List.{List, [], _∷_}
 use mathlib.Core.Option.{Option, none, some}
-use lib.Dec.{isEq}
-use Rattle.terms.specs.Refusals.{Outcome, refused, gives}
+use Rattle.terms.specs.Lists.{same}
+use Rattle.terms.specs.Refusals.{Outcome, refused, gives, Given}
 use Rattle.octets.specs.Order.{orderOf}
 use Rattle.keys.specs.Keys.{PreparedText}
-use Rattle.prepare.specs.Calls.{Call, preparedIn}
+use Rattle.prepare.specs.Calls.{Call, preparedIn, Called}
 use Rattle.compare.specs.declared.Equality.{Equality}
 use Rattle.compare.specs.declared.Equality.the-variants.{Match, NoMatch, Refused}
 use Rattle.compare.specs.declared.Ordered.{Ordered}
@@ -29,34 +30,38 @@ orderOutcome Equal = gives (2 ∷ [])
 orderOutcome Greater = gives (3 ∷ [])
 orderOutcome (Unordered r) = refused r
 
--- the number of an order of keys
+-- the number of an order
 abbrev pub orderNumber : Ordering → ℕ
 orderNumber Ordering·lt = 1
 orderNumber Ordering·eq = 2
 orderNumber Ordering·gt = 3
 
--- the number of equality: "Equality is equality of keys", which are equal where their order says so
-abbrev pub equalityNumber : Ordering → ℕ
-equalityNumber o = cond (isEq o) 1 2
+-- order by two keys: "Order compares keys octet by octet"
+abbrev pub orderOfKeys : List ℕ → List ℕ → ℕ
+orderOfKeys a b = orderNumber (orderOf a b)
+
+-- equality by two keys: "Equality is equality of keys"
+abbrev pub equalityOfKeys : List ℕ → List ℕ → ℕ
+equalityOfKeys a b = cond (same a b) 1 2
 
 -- ---- the calls
 
--- a number by the order of two texts' keys; nothing where the texts are not two
-abbrev pub compared : (Ordering → ℕ) → List PreparedText → Option (List ℕ)
+-- a number by two texts' keys; nothing where the texts are not two
+abbrev pub compared : (List ℕ → List ℕ → ℕ) → List PreparedText → Option (List ℕ)
 compared number [] = none
 compared number (p ∷ []) = none
-compared number (p ∷ q ∷ []) = some (number (orderOf (p .key) (q .key)) ∷ [])
+compared number (p ∷ q ∷ []) = some (number (p .key) (q .key) ∷ [])
 compared number (p ∷ q ∷ r ∷ ps) = none
 
 -- the values of a comparing call, of order and of equality
-abbrev pub comparedValues : (Ordering → ℕ) → Call → Option (List ℕ)
+abbrev pub comparedValues : (List ℕ → List ℕ → ℕ) → Call → Option (List ℕ)
 comparedValues number c = compared number (preparedIn c)
 
 abbrev pub orderValues : Call → Option (List ℕ)
-orderValues c = comparedValues orderNumber c
+orderValues c = comparedValues orderOfKeys c
 
 abbrev pub equalityValues : Call → Option (List ℕ)
-equalityValues c = comparedValues equalityNumber c
+equalityValues c = comparedValues equalityOfKeys c
 
 -- ---- answers by an order of keys
 
@@ -72,3 +77,27 @@ equalityBy Less = NoMatch
 equalityBy Equal = Match
 equalityBy Greater = NoMatch
 equalityBy (Unordered r) = Refused r
+
+-- ---- answers that are no refusals
+
+-- a call whose two texts are prepared to these gave this answer, which is no refusal
+pub record Says {R : Type 0} (outcome : R → Outcome) (number : List ℕ → List ℕ → ℕ) (p q : PreparedText) (r : R) : Type 0 where
+  pub call : Call
+  pub after : List (List ℕ)
+  pub called : Called outcome (comparedValues number) call r after
+  pub texts : preparedIn call ≡ p ∷ q ∷ []
+  pub given : Given (outcome r)
+
+-- a call of `order`, and one of `equal`
+abbrev pub OrderSays : PreparedText → PreparedText → Ordered → Type 0
+OrderSays p q r = Says orderOutcome orderOfKeys p q r
+
+abbrev pub EqualSays : PreparedText → PreparedText → Equality → Type 0
+EqualSays p q r = Says equalityOutcome equalityOfKeys p q r
+
+-- an order with its two texts exchanged
+abbrev pub flipped : Ordered → Ordered
+flipped Less = Greater
+flipped Equal = Equal
+flipped Greater = Less
+flipped (Unordered r) = Unordered r

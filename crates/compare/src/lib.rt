@@ -46,7 +46,9 @@ pub fn equal(
     first_key: &mut [u8],
     second_key: &mut [u8],
 ) -> Equality
-    ensures { λ r. ⌜ Called equalityOutcome equalityValues (twoCall (collationOf collation) (now (first .entry)) (now (second .entry)) (now (entries .entry)) (now (pool .entry)) (now («first_key» .entry)) (now («second_key» .entry))) r (now («first_key» .exit) ∷ now («second_key» .exit) ∷ []) ⌝ }
+    ensures { λ r. ⌜ Called equalityOutcome equalityValues (twoCall (collationOf collation) (now (first .entry))
+        (now (second .entry)) (now (entries .entry)) (now (pool .entry)) (now («first_key» .entry))
+        (now («second_key» .entry))) r (now («first_key» .exit) ∷ now («second_key» .exit) ∷ []) ⌝ }
 {
     let ordered = order(
         collation,
@@ -71,7 +73,9 @@ pub fn equal_accepted(
     second_key: &mut [u8],
 ) -> Equality
     requires { ⌜ tableCheck (collationOf collation) (table (now entries) (now pool)) ≡ none ⌝ }
-    ensures { λ r. ⌜ Called equalityOutcome equalityValues (twoCall (collationOf collation) (now (first .entry)) (now (second .entry)) (now (entries .entry)) (now (pool .entry)) (now («first_key» .entry)) (now («second_key» .entry))) r (now («first_key» .exit) ∷ now («second_key» .exit) ∷ []) ⌝ }
+    ensures { λ r. ⌜ Called equalityOutcome equalityValues (twoCall (collationOf collation) (now (first .entry))
+        (now (second .entry)) (now (entries .entry)) (now (pool .entry)) (now («first_key» .entry))
+        (now («second_key» .entry))) r (now («first_key» .exit) ∷ now («second_key» .exit) ∷ []) ⌝ }
 {
     let ordered = order_accepted(
         collation,
@@ -95,7 +99,9 @@ pub fn order(
     first_key: &mut [u8],
     second_key: &mut [u8],
 ) -> Ordered
-    ensures { λ r. ⌜ Called orderOutcome orderValues (twoCall (collationOf collation) (now (first .entry)) (now (second .entry)) (now (entries .entry)) (now (pool .entry)) (now («first_key» .entry)) (now («second_key» .entry))) r (now («first_key» .exit) ∷ now («second_key» .exit) ∷ []) ⌝ }
+    ensures { λ r. ⌜ Called orderOutcome orderValues (twoCall (collationOf collation) (now (first .entry))
+        (now (second .entry)) (now (entries .entry)) (now (pool .entry)) (now («first_key» .entry))
+        (now («second_key» .entry))) r (now («first_key» .exit) ∷ now («second_key» .exit) ∷ []) ⌝ }
 {
     let checked = prepare::check_call(collation, first.len(), second.len(), entries, pool);
     match checked {
@@ -123,7 +129,9 @@ pub fn order_accepted(
     second_key: &mut [u8],
 ) -> Ordered
     requires { ⌜ tableCheck (collationOf collation) (table (now entries) (now pool)) ≡ none ⌝ }
-    ensures { λ r. ⌜ Called orderOutcome orderValues (twoCall (collationOf collation) (now (first .entry)) (now (second .entry)) (now (entries .entry)) (now (pool .entry)) (now («first_key» .entry)) (now («second_key» .entry))) r (now («first_key» .exit) ∷ now («second_key» .exit) ∷ []) ⌝ }
+    ensures { λ r. ⌜ Called orderOutcome orderValues (twoCall (collationOf collation) (now (first .entry))
+        (now (second .entry)) (now (entries .entry)) (now (pool .entry)) (now («first_key» .entry))
+        (now («second_key» .entry))) r (now («first_key» .exit) ∷ now («second_key» .exit) ∷ []) ⌝ }
 {
     let texts = prepare::check_texts(collation, first.len(), second.len());
     match texts {
@@ -153,7 +161,9 @@ fn order_ready(
     requires { ⌜ length (now first) ≤ textMost ⌝ }
     requires { ⌜ length (now second) ≤ textMost ⌝ }
     requires { ⌜ tableUnder collation (table (now entries) (now pool)) ≡ none ⌝ }
-    ensures { λ r. ⌜ CalledReady orderOutcome orderValues (twoCall (some collation) (now (first .entry)) (now (second .entry)) (now (entries .entry)) (now (pool .entry)) (now («first_key» .entry)) (now («second_key» .entry))) r (now («first_key» .exit) ∷ now («second_key» .exit) ∷ []) ⌝ }
+    ensures { λ r. ⌜ CalledReady orderOutcome orderValues (twoCall (some collation) (now (first .entry)) (now (second .entry))
+        (now (entries .entry)) (now (pool .entry)) (now («first_key» .entry)) (now («second_key» .entry))) r (now
+        («first_key» .exit) ∷ now («second_key» .exit) ∷ []) ⌝ }
 {
     let pair = prepare::fill_two(
         collation,
@@ -191,7 +201,9 @@ fn order_shown<'a, 'b>(
     second_key: &'b [u8],
     two: Summary,
 ) -> Ordered
-    ensures { λ r. ⌜ r ≡ orderedBy (orderOf (shownAt (one .place) (one .«key_length») (now (first .entry)) (now («first_key» .entry))) (shownAt (two .place) (two .«key_length») (now (second .entry)) (now («second_key» .entry)))) ⌝ }
+    ensures { λ r. ⌜ r ≡ orderedBy (orderOf
+        (shownAt (one .place) (one .«key_length») (now (first .entry)) (now («first_key» .entry)))
+        (shownAt (two .place) (two .«key_length») (now (second .entry)) (now («second_key» .entry)))) ⌝ }
 {
     let a = keys::shown_part(first, first_key, one);
     let b = keys::shown_part(second, second_key, two);

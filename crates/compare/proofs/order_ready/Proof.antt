@@ -30,7 +30,8 @@ same-length-2 c = search needs
 returns : tie.Need-returns
 returns c =
     let known = c .before .before .before .before in
-    orders-shown (known .before .before .before .before .before .before .fill-two .ensures) (known .pair .given .1) (c .order-shown .ensures)
+    orders-shown (known .before .before .before .before .before .before .fill-two .ensures) (known .pair .given .1)
+    (c .order-shown .ensures)
 
 same-length-3 : tie.Need-same-length-3
 same-length-3 c = search needs
@@ -42,7 +43,8 @@ same-length-4 c = search needs
 returns-2 : tie.Need-returns-2
 returns-2 c =
     let known = c .before in
-    answers-on (known .before .before .before .before .before .before .fill-two .ensures) (ap pairOutcome (known .pair2 .given .1)) refl
+    answers-on (known .before .before .before .before .before .before .fill-two .ensures)
+    (ap pairOutcome (known .pair2 .given .1)) refl
 
 pub order-ready-spec : {M : Type 1} → statement M
 order-ready-spec =
