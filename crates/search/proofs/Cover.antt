@@ -1,6 +1,5 @@
--- Demand 2 of a hit: it names "the smallest run of whole characters that covers it". A run of whole characters goes from the
--- start of character i up to the start of character j, and covers the part of the key from s up to e where the characters before
--- i have at most s octets of the key and those before j at least e.
+-- Demand 2 of a hit: it names "the smallest run of whole characters of the text that covers it" (`Covers` of
+-- specs/Covering.antt).
 -- Assumes nothing.
 use mathlib.Core.Path.{_≡_, refl, ap₂, _∙_}
 use Prim.Native.Nat.{ℕ, zero, suc, pred, _+_, _-_, _≤_, _<_}
@@ -17,16 +16,8 @@ use Rattle.utf8.specs.Characters.{Character}
 use Rattle.decompose.specs.Steps.{stepsKey}
 use Rattle.occurrence.specs.Occurrence.{occurrence}
 use Rattle.occurrence.proofs.Laws.{occurrence-within}
-use Rattle.search.specs.Covering.{Span, span, holder, fromTo, covering}
+use Rattle.search.specs.Covering.{Span, span, holder, fromTo, covering, textAt, keyAt, Covers}
 use Rattle.search.proofs.Holders.{size, length-key, holder-here, holder-later}
-
--- where character j begins in the text: the width of the characters before it
-abbrev pub textAt : List Character → ℕ → ℕ
-textAt chs j = total (λ (ch : Character). ch .width) (take j chs)
-
--- where its expansion begins in the key: the octets of the characters before it
-abbrev pub keyAt : Mapping → List Character → ℕ → ℕ
-keyAt m chs j = length (stepsKey m (take j chs))
 
 -- ---- places grow
 
@@ -114,16 +105,6 @@ held-by m (ch ∷ chs) at k h = go (decLt k (size m ch)) (held-by m chs (at + ch
         held-later m ch chs at k (omega arith) (rest (omega (arith, length-key m ch chs)))
 
 -- ---- the covering run
-
--- a run of whole characters, at least one, that covers the part of the key from s up to e
-pub record Covers (m : Mapping) (chs : List Character) (s e : ℕ) (run : Span) : Type 0 where
-  pub first : ℕ
-  pub last : ℕ
-  pub some : first < last
-  pub most : last ≤ length chs
-  pub whole : run ≡ span (textAt chs first) (textAt chs last)
-  pub starts : keyAt m chs first ≤ s
-  pub ends : e ≤ keyAt m chs last
 
 module _ (m : Mapping) (chs : List Character) (s e : ℕ) (h : s < e) (within : e ≤ length (stepsKey m chs)) where
   -- the characters that hold the first octet and the last

@@ -1,5 +1,5 @@
--- The covering run out of two walks, by every decoder: the second goes on from the character that the first found (`Resumed`), and
--- finds what a walk from the start of the text would.
+-- The covering run out of two walks, by every decoder: the second goes on from the character that the first found
+-- (`Resumed`), and finds what a walk from the start of the text would.
 -- Assumes nothing.
 use mathlib.Core.Path.{_≡_, refl, sym, ap, ap₂, _∙_}
 use Prim.Native.Nat.{ℕ, _+_, _-_, _≤_, _<_, pred}
@@ -105,7 +105,8 @@ listed-there : (o : Option (List Character)) → there o ≡ true → o ≡ some
 listed-there none e = let z : _≡_ {A = ℕ} 0 1 = cc in absurd (omega arith)
 listed-there (some chs) e = refl
 
-module _ {decode : Decoder} (d : Decodes decode) {m : Mapping} (t : List ℕ) {s e : ℕ} (w : Within m (charactersBy decode t) s e) where
+module _ {decode : Decoder} (d : Decodes decode) {m : Mapping} (t : List ℕ) {s e : ℕ}
+    (w : Within m (charactersBy decode t) s e) where
   -- the first octet is within the key
   pub first-has-octet : HasOctet m (charactersBy decode t) s
   first-has-octet = record { valid = w .valid; below = omega (arith, w .some, w .most) }

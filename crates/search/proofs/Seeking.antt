@@ -79,17 +79,20 @@ run-nowhere : (m : Mapping) (o : Option (List Character)) (s : Span) → there o
 run-nowhere m none s e = refl
 run-nowhere m (some chs) s e = let z : _≡_ {A = ℕ} 0 1 = cc in absurd (omega arith)
 
-module _ (k : Collation) (m : Mapping) (t : List ℕ) (valid : Bool) (s e : ℕ) (h : Hits k m t valid s e) (reads : readsTable k ≡ true) where
+module _ (k : Collation) (m : Mapping) (t : List ℕ) (valid : Bool) (s e : ℕ) (h : Hits k m t valid s e)
+    (reads : readsTable k ≡ true) where
   -- where the table is read, a hit in a valid text has a covering run
   pub hits-within : valid ≡ true → Within m (characters t) s e
   hits-within = go k reads (h .told) (h .most)
     where
-      go : (j : Collation) → readsTable j ≡ true → valid ≡ prepared j m t .valid → e ≤ length (keyOf j m t) → valid ≡ true → Within m (characters t) s e
+      go : (j : Collation) → readsTable j ≡ true → valid ≡ prepared j m t .valid → e ≤ length (keyOf j m t) → valid ≡ true
+          → Within m (characters t) s e
       go Octet r told most v = absurd (true≢false (sym r))
       go AsciiCasemap r told most v = absurd (true≢false (sym r))
       go UnicodeCasemap r told most v =
           let there-is : there (characters t) ≡ true = sym (valid-there m t (characters t)) ∙ sym told ∙ v in
-          record { valid = there-is; some = h .some; most = omega (arith, most, ap length (key-there m t (characters t) there-is)) }
+          record
+          { valid = there-is; some = h .some; most = omega (arith, most, ap length (key-there m t (characters t) there-is)) }
 
   -- in one that is not valid the run is the part of the key
   pub hits-invalid : valid ≡ false → span s e ≡ textRun k m t (span s e)
@@ -101,7 +104,8 @@ module _ (k : Collation) (m : Mapping) (t : List ℕ) (valid : Bool) (s e : ℕ)
       go UnicodeCasemap told v = run-nowhere m (characters t) (span s e) (sym (valid-there m t (characters t)) ∙ sym told ∙ v)
 
 -- where the table is read the run is by the characters
-pub textRun-reads : (k : Collation) (m : Mapping) (t : List ℕ) (s run : Span) → readsTable k ≡ true → run ≡ runIn m (characters t) s
+pub textRun-reads : (k : Collation) (m : Mapping) (t : List ℕ) (s run : Span) → readsTable k ≡ true
+    → run ≡ runIn m (characters t) s
     → run ≡ textRun k m t s
 textRun-reads Octet m t s run r e = absurd (true≢false (sym r))
 textRun-reads AsciiCasemap m t s run r e = absurd (true≢false (sym r))
@@ -147,7 +151,8 @@ unfolding substringValues
 values-found k m s t needle hay r h a b e = rw (empty-some s h, ← a, ← b) e
 
 -- keys that are shown can be sought in
-pub shows-seekable : {k : Collation} {m : Mapping} {s sKey : List ℕ} {one : Summary} {t tKey : List ℕ} {two : Summary} {needle hay : List ℕ}
+pub shows-seekable : {k : Collation} {m : Mapping} {s sKey : List ℕ} {one : Summary} {t tKey : List ℕ} {two : Summary}
+    {needle hay : List ℕ}
     → Shows k m s sKey one t tKey two
     → (length s ≡ 0 → ⊥) → needle ≡ keyOf k m s → hay ≡ keyOf k m t
     → Seekable k m needle hay t (two .valid)
@@ -155,8 +160,10 @@ shows-seekable {k} {m} {s} h full-text a b = record { some = rw a (key-some k m 
 
 -- ---- the whole call
 
-module _ {k : Collation} {t : Table} {l n : Lent} {x : Option Refusal} {r : PreparedPair} {sAfter tAfter : List ℕ} {one two : Summary}
-    (h : Answers pairOutcome preparedValues x (call (some k) t (l ∷ n ∷ [])) r (sAfter ∷ tAfter ∷ [])) (e : r ≡ Both one two) where
+module _ {k : Collation} {t : Table} {l n : Lent} {x : Option Refusal} {r : PreparedPair} {sAfter tAfter : List ℕ}
+    {one two : Summary}
+    (h : Answers pairOutcome preparedValues x (call (some k) t (l ∷ n ∷ [])) r (sAfter ∷ tAfter ∷ []))
+    (e : r ≡ Both one two) where
   -- texts that were prepared show their keys
   pub both-shows : Shows k (mappingOf t) (l .text) sAfter one (n .text) tAfter two
   both-shows = let shown = shown-both h e in record { first = shown .first; second = shown .second; told = shown .valid }

@@ -35,7 +35,8 @@ pub fn cover(
 ) -> Run
     requires { ⌜ tableRefusal (table (now entries) (now pool)) ≡ none ⌝ }
     requires { ⌜ Within (mappingOf (table (now entries) (now pool))) (characters (now text)) (start .0) (end .0) ⌝ }
-    ensures { λ r. ⌜ runSpan r ≡ runIn (mappingOf (table (now (entries .entry)) (now (pool .entry)))) (characters (now (text .entry))) (span (start .0) (end .0)) ⌝ }
+    ensures { λ r. ⌜ runSpan r ≡ runIn (mappingOf (table (now (entries .entry)) (now (pool .entry))))
+        (characters (now (text .entry))) (span (start .0) (end .0)) ⌝ }
 {
     let s = start.0;
     let e = end.0;
@@ -61,7 +62,8 @@ fn find_holder(
 ) -> Holder
     requires { ⌜ tableRefusal (table (now entries) (now pool)) ≡ none ⌝ }
     requires { ⌜ HasOctet (mappingOf (table (now entries) (now pool))) (characters (drop (from .0) (now text))) (k .0) ⌝ }
-    ensures { λ r. ⌜ HolderFound (mappingOf (table (now (entries .entry)) (now (pool .entry)))) (characters (drop (from .0) (now (text .entry)))) (from .0) (k .0) r ⌝ }
+    ensures { λ r. ⌜ HolderFound (mappingOf (table (now (entries .entry)) (now (pool .entry))))
+        (characters (drop (from .0) (now (text .entry)))) (from .0) (k .0) r ⌝ }
 {
     let mut at = from;
     let mut left = k;

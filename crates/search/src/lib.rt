@@ -49,7 +49,9 @@ pub fn substring(
     first_key: &mut [u8],
     second_key: &mut [u8],
 ) -> Sought
-    ensures { λ r. ⌜ Called substringOutcome soughtValues (twoCall (collationOf collation) (now (first .entry)) (now (second .entry)) (now (entries .entry)) (now (pool .entry)) (now («first_key» .entry)) (now («second_key» .entry))) r (now («first_key» .exit) ∷ now («second_key» .exit) ∷ []) ⌝ }
+    ensures { λ r. ⌜ Called substringOutcome soughtValues (twoCall (collationOf collation) (now (first .entry))
+        (now (second .entry)) (now (entries .entry)) (now (pool .entry)) (now («first_key» .entry))
+        (now («second_key» .entry))) r (now («first_key» .exit) ∷ now («second_key» .exit) ∷ []) ⌝ }
 {
     let checked = prepare::check_call(collation, first.len(), second.len(), entries, pool);
     match checked {
@@ -77,7 +79,9 @@ pub fn substring_accepted(
     second_key: &mut [u8],
 ) -> Sought
     requires { ⌜ tableCheck (collationOf collation) (table (now entries) (now pool)) ≡ none ⌝ }
-    ensures { λ r. ⌜ Called substringOutcome soughtValues (twoCall (collationOf collation) (now (first .entry)) (now (second .entry)) (now (entries .entry)) (now (pool .entry)) (now («first_key» .entry)) (now («second_key» .entry))) r (now («first_key» .exit) ∷ now («second_key» .exit) ∷ []) ⌝ }
+    ensures { λ r. ⌜ Called substringOutcome soughtValues (twoCall (collationOf collation) (now (first .entry))
+        (now (second .entry)) (now (entries .entry)) (now (pool .entry)) (now («first_key» .entry))
+        (now («second_key» .entry))) r (now («first_key» .exit) ∷ now («second_key» .exit) ∷ []) ⌝ }
 {
     let texts = prepare::check_texts(collation, first.len(), second.len());
     match texts {
@@ -107,7 +111,9 @@ fn seek_ready(
     requires { ⌜ length (now first) ≤ textMost ⌝ }
     requires { ⌜ length (now second) ≤ textMost ⌝ }
     requires { ⌜ tableUnder collation (table (now entries) (now pool)) ≡ none ⌝ }
-    ensures { λ r. ⌜ CalledReady substringOutcome soughtValues (twoCall (some collation) (now (first .entry)) (now (second .entry)) (now (entries .entry)) (now (pool .entry)) (now («first_key» .entry)) (now («second_key» .entry))) r (now («first_key» .exit) ∷ now («second_key» .exit) ∷ []) ⌝ }
+    ensures { λ r. ⌜ CalledReady substringOutcome soughtValues (twoCall (some collation) (now (first .entry))
+        (now (second .entry)) (now (entries .entry)) (now (pool .entry)) (now («first_key» .entry))
+        (now («second_key» .entry))) r (now («first_key» .exit) ∷ now («second_key» .exit) ∷ []) ⌝ }
 {
     let pair = prepare::fill_two(
         collation,
@@ -149,8 +155,10 @@ fn seek_shown<'a, 'b>(
     pool: &[u32],
 ) -> Sought
     requires { ⌜ tableUnder collation (table (now entries) (now pool)) ≡ none ⌝ }
-    requires { ⌜ Shows collation (mappingOf (table (now entries) (now pool))) (now first) (now «first_key») one (now second) (now «second_key») two ⌝ }
-    ensures { λ r. ⌜ substringOutcome r ≡ gives (substringValues collation (mappingOf (table (now (entries .entry)) (now (pool .entry)))) (now (first .entry)) (now (second .entry))) ⌝ }
+    requires { ⌜ Shows collation (mappingOf (table (now entries) (now pool))) (now first) (now «first_key») one (now second)
+        (now «second_key») two ⌝ }
+    ensures { λ r. ⌜ substringOutcome r ≡ gives (substringValues collation
+        (mappingOf (table (now (entries .entry)) (now (pool .entry)))) (now (first .entry)) (now (second .entry))) ⌝ }
 {
     if first.len() == 0 {
         return Sought::Match {
@@ -177,7 +185,9 @@ fn seek_key(
 ) -> Sought
     requires { ⌜ tableUnder collation (table (now entries) (now pool)) ≡ none ⌝ }
     requires { ⌜ Seekable collation (mappingOf (table (now entries) (now pool))) (now needle) (now hay) (now second) valid ⌝ }
-    ensures { λ r. ⌜ substringOutcome r ≡ gives (foundValues collation (mappingOf (table (now (entries .entry)) (now (pool .entry)))) (now (second .entry)) (length (now (needle .entry))) (occurrence (now (needle .entry)) (now (hay .entry)))) ⌝ }
+    ensures { λ r. ⌜ substringOutcome r ≡ gives (foundValues collation
+        (mappingOf (table (now (entries .entry)) (now (pool .entry)))) (now (second .entry)) (length (now (needle .entry)))
+        (occurrence (now (needle .entry)) (now (hay .entry)))) ⌝ }
 {
     let found = occurrence::find(needle, hay);
     match found {
@@ -210,7 +220,8 @@ fn hit(
 ) -> Sought
     requires { ⌜ tableUnder collation (table (now entries) (now pool)) ≡ none ⌝ }
     requires { ⌜ Hits collation (mappingOf (table (now entries) (now pool))) (now second) valid (start .0) (end .0) ⌝ }
-    ensures { λ r. ⌜ substringOutcome r ≡ gives (hitValues (span (start .0) (end .0)) (textRun collation (mappingOf (table (now (entries .entry)) (now (pool .entry)))) (now (second .entry)) (span (start .0) (end .0)))) ⌝ }
+    ensures { λ r. ⌜ substringOutcome r ≡ gives (hitValues (span (start .0) (end .0)) (textRun collation
+        (mappingOf (table (now (entries .entry)) (now (pool .entry)))) (now (second .entry)) (span (start .0) (end .0)))) ⌝ }
 {
     if terms::reads_table(collation) {
         if valid {

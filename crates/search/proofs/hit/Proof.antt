@@ -62,7 +62,8 @@ returns-3 : tie.Need-returns-3
 returns-3 c =
     let s = c .before .before .before .before .before in
     hit-run (span (s .args .start .0) (s .args .end .0))
-    (textRun-other (s .args .collation) (mapping s) (s .args .second .now) _ (sym (c .before .reads-table .ensures) ∙ c .if1 .left))
+    (textRun-other (s .args .collation) (mapping s) (s .args .second .now) _
+    (sym (c .before .reads-table .ensures) ∙ c .if1 .left))
 
 pub hit-spec : {M : Type 1} → statement M
 hit-spec = tie.close (tie.spec reads-table-requires cover-requires returns returns-2 returns-3)

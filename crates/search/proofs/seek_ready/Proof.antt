@@ -18,8 +18,11 @@ enum-known-pair c = search needs
 seek-shown-requires : tie.Need-seek-shown-requires
 seek-shown-requires c κs =
     let known = c .before .before .before in
-    let called = known .before .before .before .before .before .before in
-    (called .before .before .before .before .before .before .before .before .before .pre .1 .1, both-shows (called .fill-two .ensures) (known .pair .given .1))
+    let called = known .before .before .before .before .before .before in (
+      called .before .before .before .before .before .before .before .before .before .pre .1 .1,
+      both-shows
+          (called .fill-two .ensures) (known .pair .given .1),
+    )
 
 enum-known-pair-2 : tie.Need-enum-known-pair-2
 enum-known-pair-2 c = search needs
@@ -34,7 +37,8 @@ same-length-2 c = search needs
 returns : tie.Need-returns
 returns c =
     let known = c .before .before .before .before in
-    seeks-shown (known .before .before .before .before .before .before .fill-two .ensures) (known .pair .given .1) (c .seek-shown .ensures)
+    seeks-shown (known .before .before .before .before .before .before .fill-two .ensures) (known .pair .given .1)
+    (c .seek-shown .ensures)
 
 same-length-3 : tie.Need-same-length-3
 same-length-3 c = search needs
@@ -46,7 +50,8 @@ same-length-4 c = search needs
 returns-2 : tie.Need-returns-2
 returns-2 c =
     let known = c .before in
-    answers-on (known .before .before .before .before .before .before .fill-two .ensures) (ap pairOutcome (known .pair2 .given .1)) refl
+    answers-on (known .before .before .before .before .before .before .fill-two .ensures)
+    (ap pairOutcome (known .pair2 .given .1)) refl
 
 pub seek-ready-spec : {M : Type 1} → statement M
 seek-ready-spec =

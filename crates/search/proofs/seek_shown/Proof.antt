@@ -21,7 +21,8 @@ mapping c = mappingOf (table (start c .args .entries .now) (start c .args .pool 
 returns : tie.Need-returns
 returns c =
     let s = start (c .before) in
-    ap gives (values-empty (s .args .collation) (mapping (c .before)) (s .args .first .now) (s .args .second .now) (c .if1 .taken))
+    ap gives
+    (values-empty (s .args .collation) (mapping (c .before)) (s .args .first .now) (s .args .second .now) (c .if1 .taken))
 
 shown-part-requires : tie.Need-shown-part-requires
 shown-part-requires c κs = search needs

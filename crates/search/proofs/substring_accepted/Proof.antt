@@ -13,7 +13,8 @@ use Rattle.search.proofs.substring_accepted.Tie as tie
 
 -- 1 to 7 were checked
 checked : (c : tie.After-check-texts) → let args = c .before .before .before .before .before .before .before .args in
-    ChecksCall (collationOf (args .collation)) (length (args .first .now)) (length (args .second .now)) (table (args .entries .now) (args .pool .now)) (c .check-texts .result)
+    ChecksCall (collationOf (args .collation)) (length (args .first .now)) (length (args .second .now))
+    (table (args .entries .now) (args .pool .now)) (c .check-texts .result)
 checked c = checks-texts (c .before .before .before .before .before .before .before .pre) (c .check-texts .ensures)
 
 check-texts-requires : tie.Need-check-texts-requires

@@ -18,7 +18,8 @@ use Rattle.search.proofs.covering.find_holder.Statement.{statement}
 use Rattle.search.proofs.covering.find_holder.Tie as tie
 
 abbrev Inv-loop : tie.InvT-loop
-Inv-loop text entries pool at₀ left₀ at left = Walking decode (mappingOf (table entries pool)) text (at₀ .0) (left₀ .0) (at .0) (left .0)
+Inv-loop text entries pool at₀ left₀ at left =
+    Walking decode (mappingOf (table entries pool)) text (at₀ .0) (left₀ .0) (at .0) (left .0)
 
 abbrev μ-loop : tie.MeasureT-loop
 μ-loop text entries pool at₀ left₀ at left = length text - at .0
@@ -99,7 +100,8 @@ loop-again c =
     let sized = sized-at (tested .before) in
     let r = sized .before in
     let l = head r in
-    walking-more utf8-decodes (l .loop .inv) (read r) (decoded r) (sized .size-expansion .result .octets) (sized .size-expansion .ensures .octets) (tested .if2 .left)
+    walking-more utf8-decodes (l .loop .inv) (read r) (decoded r) (sized .size-expansion .result .octets)
+    (sized .size-expansion .ensures .octets) (tested .if2 .left)
 
 holder-at-requires-2 : tie.Need-holder-at-requires-2 Inv-loop μ-loop
 holder-at-requires-2 c κs = search needs
