@@ -1,18 +1,23 @@
 // Where the entry of a code point stands in the table of the published UnicodeData.txt, edition 15.0.0: a guess for any table.
 //
-// crates/published/rows.py wrote this file; tests/published.sh compares the two. Nothing is promised of a guess: whoever takes it
-// looks there and goes on searching. So a table of another edition, whose entries stand some places off, takes a few steps more,
-// and no answer depends on these numbers.
+// crates/published/rows.py wrote this file; tests/published.sh compares the two. Nothing is promised of a guess but a bound,
+// since no paper says what it is: whoever takes it looks there and goes on searching. So a table of another edition, whose
+// entries stand some places off, takes a few steps more, and no answer depends on these numbers.
+ghost use Prim.Native.Nat.{_+_, _≤_};
 
 // The place of a code point's entry in that table or, if it has none, the place of the next entry.
-pub fn place_of(c: u32) -> usize {
+pub fn place_of(c: u32) -> usize
+    ensures { λ r. ⌜ r ≤ 0xFFFF + 64 ⌝ }
+{
     let row = row_of(page_of(c));
     let below = ((row / 0x10000) << (63 - c % 48)) << 1;
     (row % 0x10000) as usize + ones(below) as usize
 }
 
 // How many bits are set.
-fn ones(bits: u64) -> u32 {
+fn ones(bits: u64) -> u32
+    ensures { λ r. ⌜ r ≤ 64 ⌝ }
+{
     u64::count_ones(bits)
 }
 
@@ -33,8 +38,8 @@ fn page_of(c: u32) -> u32 {
     318
 }
 
-// The row of a page: a bit for each code point that has an entry, the lowest at bit 16, and the number of entries before the page.
-// A `match` is compiled into a table; a constant array would be written anew at each call.
+// The row of a page: a bit for each code point that has an entry, the lowest at bit 16, and the number of entries before the
+// page. A `match` is compiled into a table; a constant array would be written anew at each call.
 fn row_of(page: u32) -> u64 {
     match page {
         0 => 0x0000000000000000,
