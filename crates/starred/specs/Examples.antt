@@ -11,7 +11,8 @@ use Rattle.terms.specs.Lists.{each}
 use Rattle.terms.specs.Refusals.{Outcome, row}
 use Rattle.table.specs.Table.{table}
 use Rattle.decompose.specs.TableCheck.{tableAnswer}
-use Rattle.prepare.specs.Calls.{Call, oneCall, twoCall, callRefusal, answerOf, buffersAfter}
+use Rattle.keys.specs.Keys.{PreparedText}
+use Rattle.prepare.specs.Calls.{Call, oneCall, twoCall, preparedIn, callRefusal, answerOf, buffersAfter}
 use Rattle.prepare.specs.Preparing.{preparedValues}
 use Rattle.compare.specs.Compare.{orderValues}
 use Rattle.search.specs.Substring.{soughtValues}
@@ -49,6 +50,10 @@ answering n values c = rowOf n (answerOf (callRefusal c) (values c))
 abbrev pub leaving : Call → List ℕ
 leaving c = each (λ (b : List ℕ). b) (buffersAfter (callRefusal c) c)
 
+-- the keys of its texts, one after another
+abbrev pub keysIn : Call → List ℕ
+keysIn c = each (λ (p : PreparedText). p .key) (preparedIn c)
+
 -- a call on one text, and on two, under collation 3 with table T
 abbrev pub onText : List ℕ → Call
 onText text = oneCall (collationOf 3) text entriesT poolT blank
@@ -56,9 +61,10 @@ onText text = oneCall (collationOf 3) text entriesT poolT blank
 abbrev pub onTexts : List ℕ → List ℕ → Call
 onTexts s t = twoCall (collationOf 3) s t entriesT poolT blank blank
 
--- preparing a text: number, place, detail, valid, lookup count, length of the key, where it stands; then the key buffer
+-- preparing a text: number, place, detail, valid, lookup count, length of the key, where it stands; then the key; then the
+-- key buffer
 abbrev pub preparing : List ℕ → List ℕ
-preparing text = answering 4 preparedValues (onText text) ++ leaving (onText text)
+preparing text = answering 4 preparedValues (onText text) ++ keysIn (onText text) ++ leaving (onText text)
 
 -- ordering two texts: number, place, detail, and 1 less, 2 equal, 3 greater
 abbrev pub ordering : List ℕ → List ℕ → List ℕ
@@ -84,18 +90,25 @@ abbrev pub _gives_ : List ℕ → List ℕ → Example
 a gives s = record { asked = a; said = s }
 
 infix 20 _gives_
+-- a text that is not refused: whether it is valid, the lookup count, the length of its key and where it stands (0 the text, 1
+-- the buffer); the key; the key buffer
+abbrev pub prepared : ℕ → ℕ → ℕ → ℕ → List ℕ → List ℕ → List ℕ
+prepared valid count size place key buffer = 0 ∷ 0 ∷ 0 ∷ valid ∷ count ∷ size ∷ place ∷ key ++ buffer
+
 -- the text 61 C3 A9, whose key is 41 45 CC 81
 abbrev pub hay : List ℕ
 hay = 0x61 ∷ 0xC3 ∷ 0xA9 ∷ []
 
 unfoldable pub starred : List Example
 starred =
-    (preparing (0xC3 ∷ 0xA9 ∷ []) gives (0 ∷ 0 ∷ 0 ∷ 1 ∷ 4 ∷ 3 ∷ 1 ∷ 0x45 ∷ 0xCC ∷ 0x81 ∷ 0xEE ∷ 0xEE ∷ 0xEE ∷ []))
-    ∷ (preparing (0xC7 ∷ 0x84 ∷ []) gives (0 ∷ 0 ∷ 0 ∷ 1 ∷ 6 ∷ 4 ∷ 1 ∷ 0x44 ∷ 0x7A ∷ 0xCC ∷ 0x8C ∷ 0xEE ∷ 0xEE ∷ []))
-    ∷ (preparing (0xEF ∷ 0xAC ∷ 0x81 ∷ []) gives (0 ∷ 0 ∷ 0 ∷ 1 ∷ 4 ∷ 2 ∷ 1 ∷ 0x66 ∷ 0x69 ∷ 0xEE ∷ 0xEE ∷ 0xEE ∷ 0xEE ∷ []))
-    ∷ (preparing [] gives (0 ∷ 0 ∷ 0 ∷ 1 ∷ 0 ∷ 0 ∷ 1 ∷ blank))
-    ∷ (preparing (0xC3 ∷ []) gives (0 ∷ 0 ∷ 0 ∷ 0 ∷ 0 ∷ 1 ∷ 0 ∷ blank))
-    ∷ (preparing (0xC0 ∷ 0x80 ∷ []) gives (0 ∷ 0 ∷ 0 ∷ 0 ∷ 0 ∷ 2 ∷ 0 ∷ blank))
+    (preparing (0xC3 ∷ 0xA9 ∷ []) gives prepared 1 4 3 1 (0x45 ∷ 0xCC ∷ 0x81 ∷ []) (0x45 ∷ 0xCC ∷ 0x81 ∷ 0xEE ∷ 0xEE ∷ 0xEE ∷ []))
+    ∷ (preparing (0xC7 ∷ 0x84 ∷ [])
+    gives prepared 1 6 4 1 (0x44 ∷ 0x7A ∷ 0xCC ∷ 0x8C ∷ []) (0x44 ∷ 0x7A ∷ 0xCC ∷ 0x8C ∷ 0xEE ∷ 0xEE ∷ []))
+    ∷
+    (preparing (0xEF ∷ 0xAC ∷ 0x81 ∷ []) gives prepared 1 4 2 1 (0x66 ∷ 0x69 ∷ []) (0x66 ∷ 0x69 ∷ 0xEE ∷ 0xEE ∷ 0xEE ∷ 0xEE ∷ []))
+    ∷ (preparing [] gives prepared 1 0 0 1 [] blank)
+    ∷ (preparing (0xC3 ∷ []) gives prepared 0 0 1 0 (0xC3 ∷ []) blank)
+    ∷ (preparing (0xC0 ∷ 0x80 ∷ []) gives prepared 0 0 2 0 (0xC0 ∷ 0x80 ∷ []) blank)
     ∷ (ordering (0x45 ∷ []) (0xC3 ∷ 0xA9 ∷ []) gives (0 ∷ 0 ∷ 0 ∷ 1 ∷ []))
     ∷ (ordering (0xC3 ∷ []) (0xC3 ∷ 0xA9 ∷ []) gives (0 ∷ 0 ∷ 0 ∷ 3 ∷ []))
     ∷ (seeking (0xCC ∷ 0x81 ∷ []) hay gives (0 ∷ 0 ∷ 0 ∷ 1 ∷ 2 ∷ 4 ∷ 1 ∷ 3 ∷ []))
