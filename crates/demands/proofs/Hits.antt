@@ -20,13 +20,13 @@ use Rattle.keys.proofs.Validity.{key-valid}
 use Rattle.decompose.specs.Steps.{stepsKey}
 use Rattle.occurrence.specs.Occurrence.{occurrence}
 use Rattle.occurrence.proofs.Laws.{occurrence-some, occurrence-none, occurrence-is, occurrence-nowhere}
-use Rattle.search.specs.Covering.{Span, span, covering}
+use Rattle.search.specs.Covering.{Span, span, covering, Covers}
 use Rattle.search.specs.Substring.{substringOutcome, runIn, textRun, foundValues, substringValues}
 use Rattle.search.specs.declared.Sought.{Sought}
 use Rattle.search.specs.declared.Sought.the-variants.{Match, NoMatch}
 use Rattle.search.proofs.Injective.{substringOutcome-inj}
 use Rattle.search.proofs.Seeking.{key-some}
-use Rattle.search.proofs.Cover.{Covers, hit-covers, hit-least}
+use Rattle.search.proofs.Cover.{hit-covers, hit-least}
 use Rattle.demands.specs.Demands.{OccursAt, Hit}
 
 -- what is told of a text that is not empty
@@ -119,7 +119,9 @@ module _ {k : Collation} {m : Mapping} {s t : List ℕ} {a b c d : ℕ} (h : Hit
 module _ {m : Mapping} {s t : List ℕ} {a b c d : ℕ} (h : Hit UnicodeCasemap m s t a b c d)
     (text : 0 < length s) {chs : List Character} (valid : characters t ≡ some chs) where
   found : occurrence (keyOf UnicodeCasemap m s) (stepsKey m chs) ≡ some a
-  found = rw (key-valid m t chs valid) at (occurrence-is (keyOf UnicodeCasemap m s) (keyOf UnicodeCasemap m t) a (h .occurs) (h .nowhere-lower))
+  found =
+      rw (key-valid m t chs valid) at
+      (occurrence-is (keyOf UnicodeCasemap m s) (keyOf UnicodeCasemap m t) a (h .occurs) (h .nowhere-lower))
 
   run-is : span c d ≡ covering m chs (span a (a + length (keyOf UnicodeCasemap m s)))
   run-is =
@@ -133,7 +135,8 @@ module _ {m : Mapping} {s t : List ℕ} {a b c d : ℕ} (h : Hit UnicodeCasemap 
   -- and every run of whole characters that covers it contains this one
   pub run-least : (run : Span) → Covers m chs a b run → (run .start ≤ c) × (d ≤ run .end)
   run-least run w =
-      let least = hit-least m (keyOf UnicodeCasemap m s) chs a (key-some UnicodeCasemap m s text) found (w .first) (w .last) (omega (arith, w .some)) (w .most) (w .starts)
+      let least = hit-least m (keyOf UnicodeCasemap m s) chs a (key-some UnicodeCasemap m s text) found (w .first) (w .last)
+      (omega (arith, w .some)) (w .most) (w .starts)
       (omega (arith, w .ends, h .upto)) in
       let start = ap (λ (x : Span). x .start) run-is in
       let end = ap (λ (x : Span). x .end) run-is in

@@ -1,7 +1,16 @@
+pub mod Reflect
+pub mod FaultRows
+pub mod TableFaults
+pub mod LineFaults
 pub mod Rows
 pub mod Numbers
 pub mod Ordering
 pub mod Hits
 pub mod Growing
 pub mod Preparing
-pub mod Demands
+pub mod Demand1
+pub mod Attained
+pub mod Demand2
+pub mod Demand3
+pub mod Contracts
+pub mod Document01

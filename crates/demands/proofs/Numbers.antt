@@ -1,6 +1,6 @@
 -- Which numbers and places the checks of a call on texts give, and what 1, 2 and 8 say of its arguments.
 -- Assumes nothing.
-use mathlib.Core.Path.{_≡_, refl, sym, _∙_}
+use mathlib.Core.Path.{_≡_, refl, sym, ap, _∙_}
 use Prim.Native.Nat.{ℕ, suc, _≤_, _<_}
 use native.Mathlib.Omega.{arith}
 use mathlib.Core.Logic.{inl, inr, _↔_}
@@ -14,6 +14,7 @@ use Rattle.terms.specs.Collations.{collationOf, readsTable}
 use Rattle.terms.specs.Lists.{orElse, lowest, there}
 use Rattle.terms.specs.Refusals.{textMost, refusal, check}
 use Rattle.terms.specs.declared.Collation.{Collation}
+use Rattle.terms.specs.declared.Collation.the-variants.{UnicodeCasemap}
 use Rattle.terms.specs.declared.Refusal.{Refusal}
 use Rattle.terms.proofs.Checks.{orElse-none, orElse-assoc}
 use Rattle.terms.proofs.Tests.{none-some}
@@ -21,7 +22,8 @@ use Rattle.table.specs.Layout.{entryCount}
 use Rattle.table.specs.Table.{Table, faultySize, faultyCode, faultyNumber, entryFault, refusedAt, formRefusal, mappingOf}
 use Rattle.decompose.specs.TableCheck.{levelFault, tableRefusal}
 use Rattle.keys.specs.Keys.{PreparedText, prepared, roomFor}
-use Rattle.prepare.specs.Calls.{Lent, Call, call, lengths, preparedIn, collationCheck, lengthCheck, lengthChecks, tableCheck, readyRefusal, roomCheck, roomChecks, roomRefusal, callRefusal}
+use Rattle.prepare.specs.Calls.{Lent, Call, call, lengths, preparedIn, collationCheck, lengthCheck, lengthChecks}
+use Rattle.prepare.specs.Calls.{textsRefusal, tableCheck, readyRefusal, roomCheck, roomChecks, roomRefusal, callRefusal}
 use Rattle.prepare.proofs.CallRefusals.{callRefusal-ready}
 use Rattle.demands.specs.Demands.{CollationNumber}
 use Rattle.demands.proofs.Rows.{callRefusal-row}
@@ -126,6 +128,34 @@ module _ (c : Call) where
       numbers-past (numbers-under (c .collation) (c .table)) (roomRefusal c) x (λ a b. omega arith)
       (numbers-past (numbers-lengths 1 (lengths c)) after-lengths x (λ a b. omega arith)
       (numbers-past numbers-one after-collation x (λ a b. omega arith) (sym (callRefusal-row c) ∙ e)))
+
+-- a call under collation 3 that is refused with 8 has an accepted table
+pub eight-table : (t : Table) (ls : List Lent) (x : Refusal) → callRefusal (call (some UnicodeCasemap) t ls) ≡ some x
+    → x .number ≡ 8
+    → tableRefusal t ≡ none
+eight-table t ls x e n =
+    let c : Call = call (some UnicodeCasemap) t ls in
+    go (tableRefusal t) refl
+    (numbers-past (numbers-lengths 1 (lengths c)) (after-lengths c) x (λ a b. omega arith)
+    (numbers-past (numbers-one c) (after-collation c) x (λ a b. omega arith) (sym (callRefusal-row c) ∙ e)))
+  where
+    go : (o : Option Refusal) → tableRefusal t ≡ o → orElse o (roomRefusal (call (some UnicodeCasemap) t ls)) ≡ some x
+        → tableRefusal t ≡ none
+    go none q h = q
+    go (some y) q h = let is : y ≡ x = cc in absurd (omega (arith, numbers-table t x (q ∙ ap some is) .1, n))
+
+-- a refusal of the table is that of a call under collation 3 exactly where 1 and 2 are passed
+pub table-exactly : (t : Table) (ls : List Lent)
+    → textsRefusal (some UnicodeCasemap) (lengths (call (some UnicodeCasemap) t ls)) ≡ none
+    → (x : Refusal) → x .number ≤ 7 → (callRefusal (call (some UnicodeCasemap) t ls) ≡ some x) ↔ (tableRefusal t ≡ some x)
+unfolding callRefusal
+table-exactly t ls passed x few =
+    let c : Call = call (some UnicodeCasemap) t ls in
+    rw passed (go c (tableRefusal t))
+  where
+    go : (c : Call) (o : Option Refusal) → (orElse o (roomRefusal c) ≡ some x) ↔ (o ≡ some x)
+    go c none = (λ e. absurd (omega (arith, numbers-room c x e .0, few)), λ e. absurd (none-some x e))
+    go c (some y) = (λ e. e, λ e. e)
 
 -- ---- places
 

@@ -8,11 +8,10 @@ use mathlib.Core.List.{List, [], _∷_}
 use Rattle.octets.specs.Order.{orderOf}
 use Rattle.octets.proofs.Order.{flip, compare-refl, compare-equal, compare-below, compare-less, order-flip}
 use Rattle.keys.specs.Keys.{PreparedText}
-use Rattle.compare.specs.Compare.{orderedBy}
+use Rattle.compare.specs.Compare.{orderedBy, OrderSays}
 use Rattle.compare.specs.declared.Ordered.{Ordered}
 use Rattle.compare.specs.declared.Ordered.the-variants.{Less, Greater}
 use Rattle.compare.proofs.Preorder.{answers-keys}
-use Rattle.compare.proofs.Says.{OrderSays}
 use Rattle.demands.specs.Demands.{Precedes, proper-prefix, lower, later}
 
 less-precedes : (xs ys : List ℕ) → orderOf xs ys ≡ Ordering·lt → Precedes xs ys

@@ -12,7 +12,8 @@ use Rattle.terms.specs.declared.Refusal.{Refusal}
 use Rattle.terms.proofs.Checks.{orElse-assoc, first-append}
 use Rattle.terms.proofs.Tests.{none-some}
 use Rattle.keys.specs.Keys.{PreparedText}
-use Rattle.prepare.specs.Calls.{Lent, Call, lengths, preparedIn, lengthCheck, lengthChecks, tableCheck, collationCheck, roomCheck, roomChecks, roomRefusal, callRefusal}
+use Rattle.prepare.specs.Calls.{Lent, Call, lengths, preparedIn, lengthCheck, lengthChecks, tableCheck, collationCheck}
+use Rattle.prepare.specs.Calls.{roomCheck, roomChecks, roomRefusal, callRefusal}
 use Rattle.demands.specs.Demands.{FirstApplies, lengthRow, roomRow, callChecks}
 
 -- ---- the first check that applies
@@ -47,10 +48,12 @@ first-roomRow place (l ∷ ls) (p ∷ ps) = ap (orElse (roomCheck place (length 
 -- its refusal, one check after another
 pub callRefusal-row : (c : Call)
     → callRefusal c
-    ≡ orElse (collationCheck (c .collation)) (orElse (lengthChecks 1 (lengths c)) (orElse (tableCheck (c .collation) (c .table)) (roomRefusal c)))
+    ≡ orElse (collationCheck (c .collation))
+    (orElse (lengthChecks 1 (lengths c)) (orElse (tableCheck (c .collation) (c .table)) (roomRefusal c)))
 unfolding callRefusal
 callRefusal-row c =
-    orElse-assoc (orElse (collationCheck (c .collation)) (lengthChecks 1 (lengths c))) (tableCheck (c .collation) (c .table)) (roomRefusal c)
+    orElse-assoc (orElse (collationCheck (c .collation)) (lengthChecks 1 (lengths c))) (tableCheck (c .collation) (c .table))
+    (roomRefusal c)
     ∙ orElse-assoc (collationCheck (c .collation)) (lengthChecks 1 (lengths c)) _
 
 -- is that row's first

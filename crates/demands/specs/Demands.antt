@@ -1,5 +1,6 @@
 -- What the statements of the three demands speak of beside the definitions that the contracts cite: the checks of a call in a
--- row and the first that applies, the order of keys, a hit, a table that calls of the builder have grown, a prepared text, bounds.
+-- row and the first that applies, the order of keys, a hit, a table that calls of the builder have grown, a prepared text,
+-- bounds. What each refusal number means stands in Faults.antt, the table that attains the bounds in Widest.antt.
 -- Assumes nothing.
 use mathlib.Core.Path.{_≡_}
 use Prim.Native.Nat.{ℕ, suc, _+_, _*_, _≤_, _<_}
@@ -8,28 +9,27 @@ use mathlib.Core.Bool.{true}
 use mathlib.Core.Option.{Option, none, some}
 use mathlib.Core.List.{List, [], _∷_, _++_}
 use lib.ListN.{length, take, drop, replicate}
-use Rattle.terms.specs.Refusals.{refusal, Outcome, refused, gives}
+use Rattle.terms.specs.Lists.{over}
+use Rattle.terms.specs.Refusals.{refusal}
 use Rattle.terms.specs.declared.Collation.{Collation}
 use Rattle.terms.specs.declared.Refusal.{Refusal}
 use Rattle.table.specs.Mapping.{Mapping}
-use Rattle.table.specs.Table.{Table, refusedAt, formChecks}
-use Rattle.utf8.specs.Utf8.{Character}
-use Rattle.decompose.specs.Steps.{stepsKey, stepsLookups}
-use Rattle.decompose.specs.TableCheck.{levelFault}
+use Rattle.table.specs.Table.{Table, refusedAt, formChecks, mappingOf}
+use Rattle.utf8.specs.Utf8.{Character, characters}
+use Rattle.decompose.specs.Steps.{StepsGive}
+use Rattle.decompose.specs.TableCheck.{levelFault, tableRefusal}
 use Rattle.keys.specs.Keys.{PreparedText, keyOf}
 use Rattle.keys.specs.declared.Summary.{Summary}
 use Rattle.prepare.specs.Calls.{Lent, Call, lengths, preparedIn, collationCheck, lengthCheck, tableCheck, roomCheck}
 use Rattle.search.specs.Covering.{span}
 use Rattle.search.specs.Substring.{textRun}
-use Rattle.builder.specs.Builder.{Built, built, stateAfter, Added}
-use Rattle.builder.specs.declared.Line.{Line}
+use Rattle.ucd.specs.Lines.{Properties, LineSays}
+use Rattle.builder.specs.Builder.{Built, built, Added}
+use Rattle.builder.specs.Built.{propertiesMapping}
+use Rattle.builder.specs.declared.LineState.{LineState}
+use Rattle.builder.specs.declared.Line.the-variants.{Taken, Refused}
 
 -- ---- refusals
-
--- an answer in the paper's numbers is no refusal
-abbrev pub Given : Outcome → Type 0
-Given (refused x) = ⊥
-Given (gives values) = Unit {0}
 
 -- "the first that applies is given": a check of the row gives x, and those before it give nothing
 pub record FirstApplies (checks : List (Option Refusal)) (x : Refusal) : Type 0 where
@@ -52,7 +52,8 @@ roomRow place (l ∷ ls) (p ∷ ps) = roomCheck place (length (l .buffer)) p ∷
 roomRow place [] ps = []
 roomRow place (l ∷ ls) [] = []
 
--- the checks of a call on texts: 1; 2 (first text, then second); 3 to 7 where the collation reads the table; 8 (first key, then second)
+-- the checks of a call on texts: 1; 2 (first text, then second); 3 to 7 where the collation reads the table; 8 (first key,
+-- then second)
 abbrev pub callChecks : Call → List (Option Refusal)
 callChecks c =
     collationCheck (c .collation)
@@ -89,29 +90,74 @@ pub record Hit (k : Collation) (m : Mapping) (s t : List ℕ) (a b c d : ℕ) : 
 -- ---- the builder
 
 -- calls of `add_line` with these lines in turn took the state and slices from the one to the other, "with nothing altered between
--- calls"
-pub data Grows : Built → List (List ℕ) → Built → Type 0 where
-  start : {b : Built} → Grows b [] b
-  call : {b c : Built} {line : List ℕ} {lines : List (List ℕ)} {r : Line} {es pool : List ℕ}
-      → Added b line r es pool
-      → Grows (built (stateAfter r) es pool) lines c
-      → Grows b (line ∷ lines) c
+-- calls"; the second list has those that a call answered Taken, in their order: "the lines accepted"
+pub data Grows : Built → List (List ℕ) → List (List ℕ) → Built → Type 0 where
+  no-call : {b : Built} → Grows b [] [] b
+  taken : {b c : Built} {line : List ℕ} {lines accepted : List (List ℕ)} {st : LineState} {es pool : List ℕ}
+      → Added b line (Taken st) es pool
+      → Grows (built st es pool) lines accepted c
+      → Grows b (line ∷ lines) (line ∷ accepted) c
+  not-taken : {b c : Built} {line : List ℕ} {lines accepted : List (List ℕ)} {x : Refusal} {st : LineState} {es pool : List ℕ}
+      → Added b line (Refused x st) es pool
+      → Grows (built st es pool) lines accepted c
+      → Grows b (line ∷ lines) accepted c
 
--- ---- preparation
+-- what each of some lines says, in their order
+pub data SayEach : List (List ℕ) → List Properties → Type 0 where
+  no-line : SayEach [] []
+  one-line : {line : List ℕ} {lines : List (List ℕ)} {p : Properties} {ps : List Properties}
+      → LineSays line p → SayEach lines ps → SayEach (line ∷ lines) (p ∷ ps)
 
--- a valid text's summary and shown key are those of the published steps: "every preparation gives exactly that key and count"
+-- a mapping is that of what some lines say
+pub record HoldsSaid (m : Mapping) (lines : List (List ℕ)) : Type 0 where
+  pub said : List Properties
+  pub says : SayEach lines said
+  pub holds : m ≡ propertiesMapping said
+
+-- ---- texts and buffers
+
+-- texts of at most 4,096 octets, each with a key buffer of 128 times its length
+abbrev pub EachRoomy : List Lent → Type 0
+EachRoomy [] = Unit {0}
+EachRoomy (l ∷ ls) = ((length (l .text) ≤ 4096) × (128 * length (l .text) ≤ length (l .buffer))) × EachRoomy ls
+
+-- ---- preparation, of characters of a valid text
+
+-- a summary and a shown key "exactly the key of those steps and .. exactly as many lookups as they make"
 pub record Exact (m : Mapping) (chs : List Character) (s : Summary) (shown : List ℕ) : Type 0 where
   pub valid : s .valid ≡ true
-  pub count : s .lookups ≡ stepsLookups m chs
-  pub size : s .«key_length» ≡ length (stepsKey m chs)
-  pub key : shown ≡ stepsKey m chs
+  pub steps : StepsGive m chs shown (s .lookups)
+  pub size : s .«key_length» ≡ length shown
 
--- a refusal for a buffer that is too short: "one refused for its buffer names that key's length"
-pub record Short (m : Mapping) (chs : List Character) (buffer : List ℕ) (x : Refusal) : Type 0 where
-  pub names : x ≡ refusal 8 1 (length (stepsKey m chs))
-  pub shorter : length buffer < length (stepsKey m chs)
+-- a key buffer afterwards: "the key of those steps", over what was there
+pub record KeyLeft (m : Mapping) (chs : List Character) (buffer after : List ℕ) : Type 0 where
+  pub key : List ℕ
+  pub lookups : ℕ
+  pub steps : StepsGive m chs key lookups
+  pub left : after ≡ over key buffer
 
--- "at most 258 n lookups and a key of at most 128 n octets": of the published steps on n characters
+-- a refusal at a place: "One refused for its key buffer names that key's length", and the buffer is shorter
+pub record Short (m : Mapping) (chs : List Character) (place : ℕ) (buffer : List ℕ) (x : Refusal) : Type 0 where
+  pub key : List ℕ
+  pub lookups : ℕ
+  pub steps : StepsGive m chs key lookups
+  pub names : x ≡ refusal 8 place (length key)
+  pub shorter : length buffer < length key
+
+-- "the published steps make at most 258 n lookups and give a key of at most 128 n octets", on n characters
 pub record Bounds (m : Mapping) (chs : List Character) : Type 0 where
-  pub lookups : stepsLookups m chs ≤ 258 * length chs
-  pub octets : length (stepsKey m chs) ≤ 128 * length chs
+  pub key : List ℕ
+  pub lookups : ℕ
+  pub steps : StepsGive m chs key lookups
+  pub asked : lookups ≤ 258 * length chs
+  pub octets : length key ≤ 128 * length chs
+
+-- a table is accepted, and on a valid text of these characters, one of them, the published steps make just so many lookups
+-- and give a key of just so many octets
+pub record Attained (t : Table) (text : List ℕ) (chs : List Character) (asked octets : ℕ) : Type 0 where
+  pub accepted : tableRefusal t ≡ none
+  pub valid : characters text ≡ some chs
+  pub one : length chs ≡ 1
+  pub key : List ℕ
+  pub steps : StepsGive (mappingOf t) chs key asked
+  pub size : length key ≡ octets

@@ -1,0 +1,42 @@
+-- The bounds of demand 3 are attained: the checker computes what the published steps give of the text of `widest`.
+-- Assumes nothing.
+use mathlib.Core.Path.{_≡_, refl}
+use mathlib.Core.Option.{none, some}
+use lib.ListN.{length}
+use Rattle.terms.specs.Lists.{lowest, each, total}
+use Rattle.utf8.specs.Characters.{charactersAfter, charactersBy}
+use Rattle.utf8.specs.Utf8.{encode, trailed, decode, characters}
+use Rattle.table.specs.Layout.{entryCount, wholeEntries, numberAt}
+use Rattle.table.specs.Table.{countsBelow, notAbove, formRefusal, entryOf, mappingOf}
+use Rattle.decompose.specs.Levels.{within, full, asks}
+use Rattle.decompose.specs.Steps.{stepsKey, stepsLookups}
+use Rattle.decompose.specs.TableCheck.{tableRefusal}
+use Rattle.decompose.proofs.Demand3.{accepted-steps}
+use Rattle.demands.specs.Demands.{Attained}
+use Rattle.demands.specs.Widest.{widest, widestText, widestCharacters}
+
+widest-accepted : tableRefusal widest ≡ none
+unfolding lowest each total entryCount wholeEntries numberAt countsBelow notAbove formRefusal entryOf within full tableRefusal
+widest-accepted = refl
+
+widest-valid : characters widestText ≡ some widestCharacters
+unfolding trailed decode charactersAfter charactersBy
+widest-valid = refl
+
+widest-lookups : stepsLookups (mappingOf widest) widestCharacters ≡ 258
+unfolding lowest total entryCount numberAt entryOf asks stepsLookups
+widest-lookups = refl
+
+widest-octets : length (stepsKey (mappingOf widest) widestCharacters) ≡ 128
+unfolding lowest each encode entryCount numberAt entryOf full stepsKey
+widest-octets = refl
+
+pub widest-attains : Attained widest widestText widestCharacters 258 128
+widest-attains = record {
+  accepted = widest-accepted;
+  valid = widest-valid;
+  one = refl;
+  key = stepsKey (mappingOf widest) widestCharacters;
+  steps = rw (← widest-lookups) (accepted-steps widest widest-accepted widestCharacters);
+  size = widest-octets;
+}

@@ -1,0 +1,114 @@
+-- What the contracts of the public calls say is what the theorems of the demands take. `Learnt` is generated from the
+-- `ensures` of a function, and is what a caller learns of the arguments a, the result r and the slices s at exit; so a
+-- contract that is weakened is refused here. The values of a slice stand under `now`; κs are the lifetimes.
+-- Assumes nothing.
+use mathlib.Core.Path.{_≡_}
+use mathlib.Core.List.{[], _∷_}
+use contract.Lifetimes.{Lfts}
+use denote.Triple.Clauses.{AtExit}
+use borrow.Fn.Kinds.{Dens, endedOf, resT}
+use Rattle.terms.specs.Collations.{collationOf}
+use Rattle.terms.specs.Refusals.{checkOutcome}
+use Rattle.table.specs.Table.{table}
+use Rattle.decompose.specs.TableCheck.{tableAnswer}
+use Rattle.decompose.proofs.check_table.Kinds as check-table-kinds
+use Rattle.decompose.proofs.check_table.Reads as check-table
+use Rattle.prepare.specs.Calls.{Call, oneCall, twoCall, Called}
+use Rattle.prepare.specs.Preparing.{shownKey, Prepares}
+use Rattle.prepare.proofs.prepare.Kinds as prepare-kinds
+use Rattle.prepare.proofs.prepare.Reads as prepare
+use Rattle.prepare.proofs.prepare_accepted.Reads as prepare-accepted
+use Rattle.prepare.proofs.shown_key.Kinds as shown-key-kinds
+use Rattle.prepare.proofs.shown_key.Reads as shown-key
+use Rattle.compare.specs.Compare.{equalityOutcome, equalityValues, orderOutcome, orderValues}
+use Rattle.compare.proofs.equal.Kinds as equal-kinds
+use Rattle.compare.proofs.equal.Reads as equal
+use Rattle.compare.proofs.equal_accepted.Reads as equal-accepted
+use Rattle.compare.proofs.order.Kinds as order-kinds
+use Rattle.compare.proofs.order.Reads as order
+use Rattle.compare.proofs.order_accepted.Reads as order-accepted
+use Rattle.search.specs.Substring.{substringOutcome, soughtValues}
+use Rattle.search.proofs.substring.Kinds as substring-kinds
+use Rattle.search.proofs.substring.Reads as substring
+use Rattle.search.proofs.substring_accepted.Reads as substring-accepted
+use Rattle.builder.specs.Builder.{built, Added}
+use Rattle.builder.proofs.add_line.Kinds as add-line-kinds
+use Rattle.builder.proofs.add_line.Reads as add-line
+
+-- ---- a table and a line
+
+-- `check_table(entries, pool)`
+pub check-table-contract : (κs : Lfts 2) (a : Dens κs check-table-kinds.ps) (r : resT check-table-kinds.r κs .Denot)
+    (s : AtExit (endedOf 2 check-table-kinds.ps check-table-kinds.r) κs)
+    → check-table.Learnt κs a r s
+    → checkOutcome r ≡ tableAnswer (table (a .0 .now) (a .1 .0 .now))
+check-table-contract κs a r s h = h
+
+-- `add_line(state, line, entries, pool)`
+pub add-line-contract : (κs : Lfts 3) (a : Dens κs add-line-kinds.ps) (r : resT add-line-kinds.r κs .Denot)
+    (s : AtExit (endedOf 3 add-line-kinds.ps add-line-kinds.r) κs)
+    → add-line.Learnt κs a r s
+    → Added (built (a .0) (a .1 .1 .0 .now) (a .1 .1 .1 .0 .now)) (a .1 .0 .now) r (s .1 .1 .0 .now) (s .1 .1 .1 .0 .now)
+add-line-contract κs a r s h = h
+
+-- ---- one text
+
+-- `prepare(collation, text, entries, pool, key)` as a call
+abbrev one : (κs : Lfts 4) → Dens κs prepare-kinds.ps → Call
+one κs a = oneCall (collationOf (a .0)) (a .1 .0 .now) (a .1 .1 .0 .now) (a .1 .1 .1 .0 .now) (a .1 .1 .1 .1 .0 .now)
+
+module _ (κs : Lfts 4) (a : Dens κs prepare-kinds.ps) (r : resT prepare-kinds.r κs .Denot)
+    (s : AtExit (endedOf 4 prepare-kinds.ps prepare-kinds.r) κs) where
+  pub prepare-contract : prepare.Learnt κs a r s → Prepares (one κs a) r (s .1 .1 .1 .1 .0 .now)
+  prepare-contract h = h
+
+  -- and its twin
+  pub prepare-accepted-contract : prepare-accepted.Learnt κs a r s → Prepares (one κs a) r (s .1 .1 .1 .1 .0 .now)
+  prepare-accepted-contract h = h
+
+-- `shown_key(text, key, preparation)`
+pub shown-key-contract : (κs : Lfts 1) (a : Dens κs shown-key-kinds.ps) (r : resT shown-key-kinds.r κs .Denot)
+    (s : AtExit (endedOf 1 shown-key-kinds.ps shown-key-kinds.r) κs)
+    → shown-key.Learnt κs a r s
+    → r .now ≡ shownKey (a .1 .1 .0) (a .0 .now) (a .1 .0 .now)
+shown-key-contract κs a r s h = h
+
+-- ---- two texts
+
+-- a call (collation, first, second, entries, pool, first_key, second_key), which `equal`, `order` and `substring` have alike
+abbrev two : (κs : Lfts 6) → Dens κs order-kinds.ps → Call
+two κs a =
+    twoCall (collationOf (a .0)) (a .1 .0 .now) (a .1 .1 .0 .now) (a .1 .1 .1 .0 .now) (a .1 .1 .1 .1 .0 .now)
+    (a .1 .1 .1 .1 .1 .0 .now)
+    (a .1 .1 .1 .1 .1 .1 .0 .now)
+
+module _ (κs : Lfts 6) (a : Dens κs order-kinds.ps) where
+  module _ (r : resT equal-kinds.r κs .Denot) (s : AtExit (endedOf 6 equal-kinds.ps equal-kinds.r) κs) where
+    pub equal-contract : equal.Learnt κs a r s
+        → Called equalityOutcome equalityValues (two κs a) r (s .1 .1 .1 .1 .1 .0 .now ∷ s .1 .1 .1 .1 .1 .1 .0 .now ∷ [])
+    equal-contract h = h
+
+    -- and its twin
+    pub equal-accepted-contract : equal-accepted.Learnt κs a r s
+        → Called equalityOutcome equalityValues (two κs a) r (s .1 .1 .1 .1 .1 .0 .now ∷ s .1 .1 .1 .1 .1 .1 .0 .now ∷ [])
+    equal-accepted-contract h = h
+
+  module _ (r : resT order-kinds.r κs .Denot) (s : AtExit (endedOf 6 order-kinds.ps order-kinds.r) κs) where
+    pub order-contract : order.Learnt κs a r s
+        → Called orderOutcome orderValues (two κs a) r (s .1 .1 .1 .1 .1 .0 .now ∷ s .1 .1 .1 .1 .1 .1 .0 .now ∷ [])
+    order-contract h = h
+
+    -- and its twin
+    pub order-accepted-contract : order-accepted.Learnt κs a r s
+        → Called orderOutcome orderValues (two κs a) r (s .1 .1 .1 .1 .1 .0 .now ∷ s .1 .1 .1 .1 .1 .1 .0 .now ∷ [])
+    order-accepted-contract h = h
+
+  module _ (r : resT substring-kinds.r κs .Denot) (s : AtExit (endedOf 6 substring-kinds.ps substring-kinds.r) κs) where
+    pub substring-contract : substring.Learnt κs a r s
+        → Called substringOutcome soughtValues (two κs a) r (s .1 .1 .1 .1 .1 .0 .now ∷ s .1 .1 .1 .1 .1 .1 .0 .now ∷ [])
+    substring-contract h = h
+
+    -- and its twin
+    pub substring-accepted-contract : substring-accepted.Learnt κs a r s
+        → Called substringOutcome soughtValues (two κs a) r (s .1 .1 .1 .1 .1 .0 .now ∷ s .1 .1 .1 .1 .1 .1 .0 .now ∷ [])
+    substring-accepted-contract h = h
