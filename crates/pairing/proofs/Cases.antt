@@ -7,7 +7,8 @@ use Rattle.terms.specs.Lists.{lowest}
 use Rattle.terms.specs.Refusals.{refusal}
 use Rattle.compare.specs.declared.Ordered.the-variants.{Less, Equal, Greater, Refused}
 use Rattle.pairing.specs.Pairing.{tabOf, pairRefusal}
-use Rattle.pairing.specs.Words.{decimalBy, decimal, less, equal, greater, refusedWord, pairsWord, wordsOf, answerLine, countLine, tableLine}
+use Rattle.pairing.specs.Words.{decimalBy, decimal, less, equal, greater, refusedWord, pairsWord, wordsOf, answerLine}
+use Rattle.pairing.specs.Words.{countLine, tableLine}
 
 -- `a`, tab, `A`, tab, `B`: the line is cut at the first tab, so the later one belongs to the second text
 pub later-tab : tabOf (0x61 ∷ 0x09 ∷ 0x41 ∷ 0x09 ∷ 0x42 ∷ []) ≡ some 1

@@ -1,27 +1,21 @@
--- A line that 2 and 9 don't refuse is cut at its first tab: there is one, and the two texts and the tab between them are the line.
+-- A line that 2 and 9 don't refuse is cut at its first tab: there is one, and the two texts and the tab between them are the
+-- line.
 -- Assumes nothing.
 use mathlib.Core.Path.{_≡_, refl}
-use Prim.Native.Nat.{ℕ, suc, _<_}
+use Prim.Native.Nat.{ℕ}
 use native.Mathlib.Omega.{arith}
 use mathlib.Core.Bool.{true, not}
 use mathlib.Core.Option.{Option, none, some}
-use mathlib.Core.List.{List, _∷_, _++_}
+use mathlib.Core.List.{List}
 use lib.Dec.{ltb}
-use lib.ListN.{length, take, drop, getD}
+use lib.ListN.{length, getD}
 use lib.Seq.{split-at}
 use borrow.Author.Tests.{eqb-true, not-false}
 use Rattle.terms.specs.Lists.{there, orElse}
 use Rattle.terms.specs.Refusals.{check, refusal}
 use Rattle.terms.proofs.Checks.{orElse-neither, when-none}
 use Rattle.terms.proofs.Lowest.{lowest-some}
-use Rattle.pairing.specs.Pairing.{pairMost, isTab, tabOf, pairRefusal}
-
--- a line is cut at its first tab: what stands before it is the first text, and what stands after it the second
-pub record CutAtTab (line : List ℕ) : Type 0 where
-  pub at : ℕ
-  pub tab : tabOf line ≡ some at
-  pub within : at < length line
-  pub whole : line ≡ take at line ++ (0x09 ∷ drop (suc at) line)
+use Rattle.pairing.specs.Pairing.{pairMost, isTab, tabOf, CutAtTab, pairRefusal}
 
 -- a line that 2 and 9 don't refuse has a tab
 tab-there : (line : List ℕ) → pairRefusal line ≡ none → there (tabOf line) ≡ true

@@ -1,5 +1,5 @@
--- What is answered for a line, and what is left in the key buffers, in each of the three cases: it is too long, it has no tab, its
--- texts are compared.
+-- What is answered for a line, and what is left in the key buffers, in each of the three cases: it is too long, it has no
+-- tab, its texts are compared.
 -- Assumes nothing.
 use mathlib.Core.Path.{_≡_}
 use Prim.Native.Nat.{ℕ, _≤_, _<_}

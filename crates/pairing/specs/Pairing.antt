@@ -1,10 +1,11 @@
--- A line of the program `pairs`: "first text, tab, second text (later tabs belong to it)". What it answers, and what it leaves in the
--- two key buffers.
+-- A line of the program `pairs`: "first text, tab, second text (later tabs belong to it)". What it answers, and what it
+-- leaves in the two key buffers.
 -- Assumes nothing.
-use Prim.Native.Nat.{ℕ, suc}
+use mathlib.Core.Path.{_≡_}
+use Prim.Native.Nat.{ℕ, suc, _<_}
 use mathlib.Core.Bool.{Bool, not}
 use mathlib.Core.Option.{Option, none, some}
-use mathlib.Core.List.{List, [], _∷_}
+use mathlib.Core.List.{List, [], _∷_, _++_}
 use lib.Dec.{ltb, eqb}
 use lib.ListN.{length, take, drop, getD}
 use Rattle.terms.specs.Lists.{there, lowest}
@@ -28,6 +29,13 @@ isTab line i = eqb (getD line i 0) 0x09
 -- where the first tab stands, if there is one
 abbrev pub tabOf : List ℕ → Option ℕ
 tabOf line = lowest (isTab line) (length line)
+
+-- a line is cut at its first tab: what stands before it is the first text, and what stands after it the second
+pub record CutAtTab (line : List ℕ) : Type 0 where
+  pub at : ℕ
+  pub tab : tabOf line ≡ some at
+  pub within : at < length line
+  pub whole : line ≡ take at line ++ (0x09 ∷ drop (suc at) line)
 
 -- what stands before a place of a line, and what stands after it, compared under i;unicode-casemap
 abbrev pub callAround : List ℕ → Table → List ℕ → List ℕ → ℕ → Call

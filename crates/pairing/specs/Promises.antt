@@ -17,6 +17,7 @@ tabFound (At i) = some i
 tabFound Nowhere = none
 
 -- a line was judged: the answer, and both key buffers
-pub record Judges (line : List ℕ) (t : Table) (firstBuffer secondBuffer : List ℕ) (r : Ordered) (after : List (List ℕ)) : Type 0 where
+pub record Judges (line : List ℕ) (t : Table) (firstBuffer secondBuffer : List ℕ) (r : Ordered)
+    (after : List (List ℕ)) : Type 0 where
   pub answered : some (orderOutcome r) ≡ pairAnswer line t firstBuffer secondBuffer
   pub left : after ≡ pairBuffers line t firstBuffer secondBuffer

@@ -1,5 +1,5 @@
--- The lines that the program `pairs` prints, as octets: "Each line prints `equal`, `less`, `greater` or `refused` and the number",
--- "The last line counts all lines read", and `table refused` and the number. Words are in ASCII.
+-- The lines that the program `pairs` prints, as octets: "Each line prints `equal`, `less`, `greater` or `refused` and the
+-- number", "The last line counts all lines read", and `table refused` and the number. Words are in ASCII.
 -- Assumes nothing.
 use mathlib.Core.Path.{_≡_, refl}
 use Prim.Native.Nat.{ℕ, zero, suc, _+_, _/_, _%_, _≤_, _<_}

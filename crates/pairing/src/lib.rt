@@ -45,7 +45,8 @@ pub fn judge(
     second_key: &mut [u8],
 ) -> Ordered
     requires { ⌜ tableRefusal (table (now entries) (now pool)) ≡ none ⌝ }
-    ensures { λ r. ⌜ Judges (now (line .entry)) (table (now (entries .entry)) (now (pool .entry))) (now («first_key» .entry)) (now («second_key» .entry)) r (now («first_key» .exit) ∷ now («second_key» .exit) ∷ []) ⌝ }
+    ensures { λ r. ⌜ Judges (now (line .entry)) (table (now (entries .entry)) (now (pool .entry))) (now («first_key» .entry))
+        (now («second_key» .entry)) r (now («first_key» .exit) ∷ now («second_key» .exit) ∷ []) ⌝ }
 {
     if PAIR_MOST < line.len() {
         return refuse(terms::REFUSED_TEXT_LENGTH);
@@ -67,7 +68,9 @@ fn order_around(
     second_key: &mut [u8],
 ) -> Ordered
     requires { ⌜ (at < length (now line)) × (tableRefusal (table (now entries) (now pool)) ≡ none) ⌝ }
-    ensures { λ r. ⌜ Called orderOutcome orderValues (callAround (now (line .entry)) (table (now (entries .entry)) (now (pool .entry))) (now («first_key» .entry)) (now («second_key» .entry)) at) r (now («first_key» .exit) ∷ now («second_key» .exit) ∷ []) ⌝ }
+    ensures { λ r. ⌜ Called orderOutcome orderValues (callAround (now (line .entry))
+        (table (now (entries .entry)) (now (pool .entry))) (now («first_key» .entry)) (now («second_key» .entry)) at) r (now
+        («first_key» .exit) ∷ now («second_key» .exit) ∷ []) ⌝ }
 {
     let next = at + 1;
     compare::order_accepted(

@@ -1,4 +1,5 @@
--- `pairing::find_tab` meets its contract. The loop's invariant: no octet before the one reached is a tab. The measure is what is left.
+-- `pairing::find_tab` meets its contract. The loop's invariant: no octet before the one reached is a tab. The measure is what
+-- is left.
 -- Assumes nothing.
 use mathlib.Core.Path.{_≡_, sym}
 use Prim.Native.Nat.{ℕ, _<_, _-_}

@@ -1,5 +1,5 @@
--- `pairing::words::put_decimal` meets its contract: a digit alone, or the digits of a tenth, by a call of itself, and then the last
--- digit. The measure of the recursion is the number.
+-- `pairing::words::put_decimal` meets its contract: a digit alone, or the digits of a tenth, by a call of itself, and then
+-- the last digit. The measure of the recursion is the number.
 -- Assumes nothing.
 use mathlib.Core.Path.{_≡_}
 use Prim.Native.Nat.{ℕ, _/_, _%_, _≤_, _<_}

@@ -14,7 +14,8 @@ use borrow.Author.Needs.{needs}
 use Rattle.pairing.proofs.words.put_numbered.Statement.{statement}
 use Rattle.pairing.proofs.words.put_numbered.Tie as tie
 
--- where the word was put: the function's entry, that the slice kept its length, and that there is room for the digits and the line end
+-- where the word was put: the function's entry, that the slice kept its length, and that there is room for the digits and the
+-- line end
 abbrev entry : tie.After-put-octets → tie.Start
 entry p = p .before .before .before .before
 
@@ -47,7 +48,8 @@ puts-joined : (d : tie.After-put-decimal)
 puts-joined d =
     let p = word-put d in
     let s = entry p in
-    puts-append (s .args .word .now) (s .args .out .now) (p .put-octets .result) (p .put-octets .last .1 .0) (p .put-octets .ensures)
+    puts-append (s .args .word .now) (s .args .out .now) (p .put-octets .result) (p .put-octets .last .1 .0)
+    (p .put-octets .ensures)
     (decimal (s .args .n)) (d .put-decimal .result) (d .put-decimal .last .1 .0)
     (rw (take-drop (p .put-octets .result) (p .put-octets .last .1 .0)) at (d .put-decimal .ensures))
 
@@ -78,7 +80,8 @@ part-put-decimal-end c = search needs
 put-decimal-requires : tie.Need-put-decimal-requires
 put-decimal-requires c κs =
     let p = c .before .before .before in
-    rw (take-drop (p .put-octets .result) (p .put-octets .last .1 .0)) (omega (arith, room p, digits-few p, length-drop (p .put-octets .result) (p .put-octets .last .1 .0)))
+    rw (take-drop (p .put-octets .result) (p .put-octets .last .1 .0))
+    (omega (arith, room p, digits-few p, length-drop (p .put-octets .result) (p .put-octets .last .1 .0)))
 
 -- the end is within the slice
 add-end : tie.Need-add-end
@@ -104,7 +107,8 @@ returns c =
     let d = c .before .before in
     let s = entry (word-put d) in
     rw (whole d)
-    (puts-more (s .args .word .now ++ decimal (s .args .n)) (s .args .out .now) (at-end d) (joined d) (puts-joined d) 10 (end-below d))
+    (puts-more (s .args .word .now ++ decimal (s .args .n)) (s .args .out .now) (at-end d) (joined d) (puts-joined d) 10
+    (end-below d))
 
 pub put-numbered-spec : {M : Type 1} → statement M
 put-numbered-spec =
