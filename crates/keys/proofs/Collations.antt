@@ -1,5 +1,5 @@
--- What is known under a collation that reads the table: that the table was checked, whether the text is valid, and what is left in
--- the buffer of one that is not.
+-- What is known under a collation that reads the table: that the table was checked, whether the text is valid, and what is
+-- left in the buffer of one that is not.
 -- Assumes nothing.
 use mathlib.Core.Path.{_≡_, refl}
 use mathlib.Core.Bool.{true, false, true≢false}

@@ -60,7 +60,8 @@ shownAt-place place p t buffer whole e = go place (p .buffered) whole e
     go Buffer false h e = cc
 
 -- a summary with a prepared text's numbers shows its key
-pub shownAt-keyed : (k : Collation) (m : Mapping) (t buffer : List ℕ) (s : Summary) → summaryNumbers s ≡ preparedNumbers (prepared k m t)
+pub shownAt-keyed : (k : Collation) (m : Mapping) (t buffer : List ℕ) (s : Summary)
+    → summaryNumbers s ≡ preparedNumbers (prepared k m t)
     → shownAt (s .place) (s .«key_length») t (keyed (prepared k m t) buffer) ≡ keyOf k m t
 shownAt-keyed k m t buffer s sized =
     let p = prepared k m t in

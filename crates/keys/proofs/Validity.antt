@@ -1,5 +1,5 @@
--- "Under collation 3 a valid and an invalid text are never equal": the key of a valid text is UTF-8, and that of an invalid text is
--- the text, which is not.
+-- "Under collation 3 a valid and an invalid text are never equal": the key of a valid text is UTF-8, and that of an invalid
+-- text is the text, which is not.
 -- Assumes nothing.
 use mathlib.Core.Path.{_≡_, refl, sym, _∙_, ap}
 use mathlib.Core.Bool.{Bool, true, false, true≢false}
@@ -47,14 +47,16 @@ expansions-scalar m ok (c ∷ cs) e =
     (expansions-scalar m ok cs (all-rest scalar c cs e))
 
 -- so the key of a valid text is UTF-8
-valid-key : (m : Mapping) → Scalars m → (t : List ℕ) (chs : List Character) → characters t ≡ some chs → there (characters (stepsKey m chs)) ≡ true
+valid-key : (m : Mapping) → Scalars m → (t : List ℕ) (chs : List Character) → characters t ≡ some chs
+    → there (characters (stepsKey m chs)) ≡ true
 valid-key m ok t chs e =
     let codes : List ℕ = expansions m (codesOf chs) in
     ap (λ (l : List ℕ). there (characters l)) (stepsKey-encodes m chs)
     ∙ ap there (characters-encodes codes (expansions-scalar m ok (codesOf chs) (characters-scalars utf8-decodes t chs e)))
 
 -- the key of a valid text, and of one that is not
-pub key-valid : (m : Mapping) (t : List ℕ) (chs : List Character) → characters t ≡ some chs → keyOf UnicodeCasemap m t ≡ stepsKey m chs
+pub key-valid : (m : Mapping) (t : List ℕ) (chs : List Character) → characters t ≡ some chs
+    → keyOf UnicodeCasemap m t ≡ stepsKey m chs
 key-valid m t chs e = ap (λ (o : Option (List Character)). unicodePrepared m t o .key) e
 
 pub key-invalid : (m : Mapping) (t : List ℕ) → characters t ≡ none → keyOf UnicodeCasemap m t ≡ t

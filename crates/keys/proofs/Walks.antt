@@ -1,5 +1,5 @@
--- The walks over a text's characters, by every decoder: what sizing (`Sizing`) and writing (`Writing`) have after its first octets,
--- on plain values, each with its laws, start, one more, done.
+-- The walks over a text's characters, by every decoder: what sizing (`Sizing`) and writing (`Writing`) have after its first
+-- octets, on plain values, each with its laws, start, one more, done.
 -- Assumes nothing.
 use mathlib.Core.Path.{_≡_, refl, sym, ap, _∙_}
 use Prim.Native.Nat.{ℕ, _+_, _*_, _≤_}
@@ -53,7 +53,8 @@ valuesFrom-done m t o k = rw (add-zero k, add-zero o)
 -- the characters up to a place came to o octets and k lookups: the text's numbers go by these and by the characters that follow
 pub record Sizing (decode : Decoder) (m : Mapping) (t : List ℕ) (at o k : ℕ) : Type 0 where
   pub passed : at ≤ length t
-  pub values : preparedNumbers (unicodePrepared m t (charactersBy decode t)) ≡ valuesFrom m t o k (charactersBy decode (drop at t))
+  pub values : preparedNumbers (unicodePrepared m t (charactersBy decode t)) ≡ valuesFrom m t o k
+      (charactersBy decode (drop at t))
   pub octets : o ≤ 128 * at
   pub asked : k ≤ 258 * at
 
@@ -130,7 +131,8 @@ pub record Writing (decode : Decoder) (m : Mapping) (t buffer : List ℕ) (at en
 -- before the first character
 pub writing-start : (decode : Decoder) (m : Mapping) (t buffer : List ℕ) → there (charactersBy decode t) ≡ true
     → Writing decode m t buffer 0 0 buffer
-writing-start decode m t buffer e = record { passed = omega arith; valid = e; octets = []; count = refl; written = refl; whole = refl }
+writing-start decode m t buffer e =
+    record { passed = omega arith; valid = e; octets = []; count = refl; written = refl; whole = refl }
 
 module _ {decode : Decoder} (d : Decodes decode) {m : Mapping} {t buffer : List ℕ} {at end : ℕ} {after : List ℕ}
     (w : Writing decode m t buffer at end after) where

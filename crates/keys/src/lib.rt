@@ -37,7 +37,8 @@ pub struct Summary {
 pub fn size_key(collation: Collation, text: &[u8], entries: &[u32], pool: &[u32]) -> Summary
     requires { ⌜ length (now text) ≤ textMost ⌝ }
     requires { ⌜ tableUnder collation (table (now entries) (now pool)) ≡ none ⌝ }
-    ensures { λ r. ⌜ summaryNumbers r ≡ preparedNumbers (prepared collation (mappingOf (table (now (entries .entry)) (now (pool .entry)))) (now (text .entry))) ⌝ }
+    ensures { λ r. ⌜ summaryNumbers r ≡ preparedNumbers
+        (prepared collation (mappingOf (table (now (entries .entry)) (now (pool .entry)))) (now (text .entry))) ⌝ }
 {
     match collation {
         Collation::Octet => Summary {
@@ -73,9 +74,12 @@ pub fn write_key(
 )
     requires { ⌜ length (now text) ≤ textMost ⌝ }
     requires { ⌜ tableUnder collation (table (now entries) (now pool)) ≡ none ⌝ }
-    requires { ⌜ summaryNumbers summary ≡ preparedNumbers (prepared collation (mappingOf (table (now entries) (now pool))) (now text)) ⌝ }
+    requires { ⌜ summaryNumbers summary ≡ preparedNumbers
+        (prepared collation (mappingOf (table (now entries) (now pool))) (now text)) ⌝ }
     requires { ⌜ roomFor (prepared collation (mappingOf (table (now entries) (now pool))) (now text)) ≤ length (now key) ⌝ }
-    ensures { λ _. ⌜ now (key .exit) ≡ keyed (prepared collation (mappingOf (table (now (entries .entry)) (now (pool .entry)))) (now (text .entry))) (now (key .entry)) ⌝ }
+    ensures { λ _. ⌜ now (key .exit) ≡ keyed
+        (prepared collation (mappingOf (table (now (entries .entry)) (now (pool .entry)))) (now (text .entry)))
+        (now (key .entry)) ⌝ }
 {
     match collation {
         Collation::Octet => {}
@@ -105,7 +109,8 @@ pub fn fill_unicode(text: &[u8], entries: &[u32], pool: &[u32], key: &mut [u8]) 
     requires { ⌜ length (now text) ≤ textMost ⌝ }
     requires { ⌜ tableRefusal (table (now entries) (now pool)) ≡ none ⌝ }
     requires { ⌜ expansionMost * length (now text) ≤ length (now key) ⌝ }
-    ensures { λ r. ⌜ KeyFilled (unicodePrepared (mappingOf (table (now (entries .entry)) (now (pool .entry)))) (now (text .entry)) (characters (now (text .entry)))) (now (key .entry)) r (now (key .exit)) ⌝ }
+    ensures { λ r. ⌜ KeyFilled (unicodePrepared (mappingOf (table (now (entries .entry)) (now (pool .entry))))
+        (now (text .entry)) (characters (now (text .entry)))) (now (key .entry)) r (now (key .exit)) ⌝ }
 {
     // An invalid text leaves the buffer, so the text is read to its end before the first octet is written.
     if utf8::is_valid(text) {

@@ -22,7 +22,9 @@ pub fn size_unicode(text: &[u8], entries: &[u32], pool: &[u32]) -> Summary
     requires { ⌜ length (now text) ≤ textMost ⌝ }
     requires { ⌜ tableRefusal (table (now entries) (now pool)) ≡ none ⌝ }
     requires { ⌜ there (characters (now text)) ≡ true ⌝ }
-    ensures { λ r. ⌜ summaryNumbers r ≡ preparedNumbers (unicodePrepared (mappingOf (table (now (entries .entry)) (now (pool .entry)))) (now (text .entry)) (characters (now (text .entry)))) ⌝ }
+    ensures { λ r. ⌜ summaryNumbers r ≡ preparedNumbers (unicodePrepared
+        (mappingOf (table (now (entries .entry)) (now (pool .entry)))) (now (text .entry))
+        (characters (now (text .entry)))) ⌝ }
 {
     let mut at = TextPosition(0);
     let mut end = KeyPosition(0);
@@ -47,8 +49,11 @@ pub fn write_unicode(text: &[u8], entries: &[u32], pool: &[u32], key: &mut [u8])
     requires { ⌜ length (now text) ≤ textMost ⌝ }
     requires { ⌜ tableRefusal (table (now entries) (now pool)) ≡ none ⌝ }
     requires { ⌜ there (characters (now text)) ≡ true ⌝ }
-    requires { ⌜ roomFor (unicodePrepared (mappingOf (table (now entries) (now pool))) (now text) (characters (now text))) ≤ length (now key) ⌝ }
-    ensures { λ r. ⌜ KeyFilled (unicodePrepared (mappingOf (table (now (entries .entry)) (now (pool .entry)))) (now (text .entry)) (characters (now (text .entry)))) (now (key .entry)) r (now (key .exit)) ⌝ }
+    requires { ⌜ roomFor
+        (unicodePrepared (mappingOf (table (now entries) (now pool))) (now text) (characters (now text))) ≤ length
+        (now key) ⌝ }
+    ensures { λ r. ⌜ KeyFilled (unicodePrepared (mappingOf (table (now (entries .entry)) (now (pool .entry))))
+        (now (text .entry)) (characters (now (text .entry)))) (now (key .entry)) r (now (key .exit)) ⌝ }
 {
     let mut at = TextPosition(0);
     let mut end = KeyPosition(0);

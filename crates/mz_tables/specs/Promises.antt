@@ -1,5 +1,5 @@
--- What the calls of the C interface on tables promise: the whole of the answer row, and both slices of a table that is being built. The
--- rows are the library's own answers in the paper's numbers.
+-- What the calls of the C interface on tables promise: the whole of the answer row, and both slices of a table that is being
+-- built. The rows are the library's own answers in the paper's numbers.
 -- Assumes nothing.
 use mathlib.Core.Path.{_≡_}
 use Prim.Native.Nat.{ℕ}

@@ -1,7 +1,8 @@
-// The calls of the C interface on a table (include/mundeziwa.h), and its number: each function calls one of the library's and stores the
-// answer as a row of numbers.
+// The calls of the C interface on a table (include/mundeziwa.h), and its number: each function calls one of the library's and
+// stores the answer as a row of numbers.
 //
-// All take any arguments at all. That pointers and lengths are what the header says of them is the C caller's part: no proof sees it.
+// All take any arguments at all. That pointers and lengths are what the header says of them is the C caller's part: no proof
+// sees it.
 mod rows;
 
 use builder::LineState;

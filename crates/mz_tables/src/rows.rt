@@ -1,4 +1,5 @@
-// The library's answers on tables as rows of numbers: refusal number (0 if not refused), place, detail, and then the values of the call.
+// The library's answers on tables as rows of numbers: refusal number (0 if not refused), place, detail, and then the values
+// of the call.
 use builder::Line;
 use terms::Check;
 ghost use mathlib.Core.Path.{_≡_};

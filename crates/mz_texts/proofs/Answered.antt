@@ -9,5 +9,7 @@ use Rattle.prepare.specs.Calls.{Call, Called}
 use Rattle.mz_texts.specs.Promises.{rowOf, RowAnswered}
 
 -- a call that was answered has its row
-pub called→row : {R : Type 0} {outcome : R → Outcome} {values : Call → Option (List ℕ)} {c : Call} {r : R} {after : List (List ℕ)} {n : ℕ} {answer : List ℕ} → Called outcome values c r after → answer ≡ row n (outcome r) → RowAnswered n values c answer after
+pub called→row : {R : Type 0} {outcome : R → Outcome} {values : Call → Option (List ℕ)} {c : Call} {r : R}
+    {after : List (List ℕ)} {n : ℕ} {answer : List ℕ}
+    → Called outcome values c r after → answer ≡ row n (outcome r) → RowAnswered n values c answer after
 called→row {n = n} called e = record { answered = ap some e ∙ ap (rowOf n) (called .answered); left = called .left }

@@ -1,5 +1,5 @@
--- What the calls of the C interface on texts promise: the whole of the answer row, and every key buffer. The rows are the library's own
--- answers in the paper's numbers.
+-- What the calls of the C interface on texts promise: the whole of the answer row, and every key buffer. The rows are the
+-- library's own answers in the paper's numbers.
 -- Assumes nothing.
 use mathlib.Core.Path.{_≡_}
 use Prim.Native.Nat.{ℕ}
@@ -14,6 +14,7 @@ rowOf n none = none
 rowOf n (some o) = some (row n o)
 
 -- a call on texts was answered: the row of its n values or of its refusal, and the key buffers
-pub record RowAnswered (n : ℕ) (values : Call → Option (List ℕ)) (c : Call) (answer : List ℕ) (after : List (List ℕ)) : Type 0 where
+pub record RowAnswered (n : ℕ) (values : Call → Option (List ℕ)) (c : Call) (answer : List ℕ)
+    (after : List (List ℕ)) : Type 0 where
   pub answered : some answer ≡ rowOf n (answerOf (callRefusal c) (values c))
   pub left : after ≡ buffersAfter (callRefusal c) c

@@ -19,7 +19,9 @@ pub extern "C" fn mz_prepare(
     key: &mut [u8],
     answer: &mut [u64; 7],
 )
-    ensures { λ _. ⌜ RowAnswered 4 preparedValues (oneCall (collationOf collation) (now (text .entry)) (now (entries .entry)) (now (pool .entry)) (now (key .entry))) (now (answer .exit)) (now (key .exit) ∷ []) ⌝ }
+    ensures { λ _. ⌜ RowAnswered 4 preparedValues
+        (oneCall (collationOf collation) (now (text .entry)) (now (entries .entry)) (now (pool .entry)) (now (key .entry)))
+        (now (answer .exit)) (now (key .exit) ∷ []) ⌝ }
 {
     let preparation = prepare::prepare(collation, text, entries, pool, key);
     *answer = preparation_row(preparation);
@@ -36,7 +38,9 @@ pub extern "C" fn mz_prepare_accepted(
     answer: &mut [u64; 7],
 )
     requires { ⌜ tableCheck (collationOf collation) (table (now entries) (now pool)) ≡ none ⌝ }
-    ensures { λ _. ⌜ RowAnswered 4 preparedValues (oneCall (collationOf collation) (now (text .entry)) (now (entries .entry)) (now (pool .entry)) (now (key .entry))) (now (answer .exit)) (now (key .exit) ∷ []) ⌝ }
+    ensures { λ _. ⌜ RowAnswered 4 preparedValues
+        (oneCall (collationOf collation) (now (text .entry)) (now (entries .entry)) (now (pool .entry)) (now (key .entry)))
+        (now (answer .exit)) (now (key .exit) ∷ []) ⌝ }
 {
     let preparation = prepare::prepare_accepted(collation, text, entries, pool, key);
     *answer = preparation_row(preparation);

@@ -1,4 +1,5 @@
-// The library's answers on texts as rows of numbers: refusal number (0 if not refused), place, detail, and then the values of the call.
+// The library's answers on texts as rows of numbers: refusal number (0 if not refused), place, detail, and then the values of
+// the call.
 use compare::Equality;
 use compare::Ordered;
 use keys::KeyPlace;

@@ -24,7 +24,9 @@ pub extern "C" fn mz_equal(
     second_key: &mut [u8],
     answer: &mut [u64; 4],
 )
-    ensures { λ _. ⌜ RowAnswered 1 equalityValues (twoCall (collationOf collation) (now (first .entry)) (now (second .entry)) (now (entries .entry)) (now (pool .entry)) (now («first_key» .entry)) (now («second_key» .entry))) (now (answer .exit)) (now («first_key» .exit) ∷ now («second_key» .exit) ∷ []) ⌝ }
+    ensures { λ _. ⌜ RowAnswered 1 equalityValues (twoCall (collationOf collation) (now (first .entry)) (now (second .entry))
+        (now (entries .entry)) (now (pool .entry)) (now («first_key» .entry)) (now («second_key» .entry))) (now
+        (answer .exit)) (now («first_key» .exit) ∷ now («second_key» .exit) ∷ []) ⌝ }
 {
     let equality = compare::equal(
         collation,
@@ -50,7 +52,9 @@ pub extern "C" fn mz_order(
     second_key: &mut [u8],
     answer: &mut [u64; 4],
 )
-    ensures { λ _. ⌜ RowAnswered 1 orderValues (twoCall (collationOf collation) (now (first .entry)) (now (second .entry)) (now (entries .entry)) (now (pool .entry)) (now («first_key» .entry)) (now («second_key» .entry))) (now (answer .exit)) (now («first_key» .exit) ∷ now («second_key» .exit) ∷ []) ⌝ }
+    ensures { λ _. ⌜ RowAnswered 1 orderValues (twoCall (collationOf collation) (now (first .entry)) (now (second .entry))
+        (now (entries .entry)) (now (pool .entry)) (now («first_key» .entry)) (now («second_key» .entry))) (now
+        (answer .exit)) (now («first_key» .exit) ∷ now («second_key» .exit) ∷ []) ⌝ }
 {
     let ordered = compare::order(
         collation,
@@ -76,7 +80,9 @@ pub extern "C" fn mz_substring(
     second_key: &mut [u8],
     answer: &mut [u64; 8],
 )
-    ensures { λ _. ⌜ RowAnswered 5 soughtValues (twoCall (collationOf collation) (now (first .entry)) (now (second .entry)) (now (entries .entry)) (now (pool .entry)) (now («first_key» .entry)) (now («second_key» .entry))) (now (answer .exit)) (now («first_key» .exit) ∷ now («second_key» .exit) ∷ []) ⌝ }
+    ensures { λ _. ⌜ RowAnswered 5 soughtValues (twoCall (collationOf collation) (now (first .entry)) (now (second .entry))
+        (now (entries .entry)) (now (pool .entry)) (now («first_key» .entry)) (now («second_key» .entry))) (now
+        (answer .exit)) (now («first_key» .exit) ∷ now («second_key» .exit) ∷ []) ⌝ }
 {
     let sought = search::substring(
         collation,
@@ -103,7 +109,9 @@ pub extern "C" fn mz_equal_accepted(
     answer: &mut [u64; 4],
 )
     requires { ⌜ tableCheck (collationOf collation) (table (now entries) (now pool)) ≡ none ⌝ }
-    ensures { λ _. ⌜ RowAnswered 1 equalityValues (twoCall (collationOf collation) (now (first .entry)) (now (second .entry)) (now (entries .entry)) (now (pool .entry)) (now («first_key» .entry)) (now («second_key» .entry))) (now (answer .exit)) (now («first_key» .exit) ∷ now («second_key» .exit) ∷ []) ⌝ }
+    ensures { λ _. ⌜ RowAnswered 1 equalityValues (twoCall (collationOf collation) (now (first .entry)) (now (second .entry))
+        (now (entries .entry)) (now (pool .entry)) (now («first_key» .entry)) (now («second_key» .entry))) (now
+        (answer .exit)) (now («first_key» .exit) ∷ now («second_key» .exit) ∷ []) ⌝ }
 {
     let equality = compare::equal_accepted(
         collation,
@@ -130,7 +138,9 @@ pub extern "C" fn mz_order_accepted(
     answer: &mut [u64; 4],
 )
     requires { ⌜ tableCheck (collationOf collation) (table (now entries) (now pool)) ≡ none ⌝ }
-    ensures { λ _. ⌜ RowAnswered 1 orderValues (twoCall (collationOf collation) (now (first .entry)) (now (second .entry)) (now (entries .entry)) (now (pool .entry)) (now («first_key» .entry)) (now («second_key» .entry))) (now (answer .exit)) (now («first_key» .exit) ∷ now («second_key» .exit) ∷ []) ⌝ }
+    ensures { λ _. ⌜ RowAnswered 1 orderValues (twoCall (collationOf collation) (now (first .entry)) (now (second .entry))
+        (now (entries .entry)) (now (pool .entry)) (now («first_key» .entry)) (now («second_key» .entry))) (now
+        (answer .exit)) (now («first_key» .exit) ∷ now («second_key» .exit) ∷ []) ⌝ }
 {
     let ordered = compare::order_accepted(
         collation,
@@ -157,7 +167,9 @@ pub extern "C" fn mz_substring_accepted(
     answer: &mut [u64; 8],
 )
     requires { ⌜ tableCheck (collationOf collation) (table (now entries) (now pool)) ≡ none ⌝ }
-    ensures { λ _. ⌜ RowAnswered 5 soughtValues (twoCall (collationOf collation) (now (first .entry)) (now (second .entry)) (now (entries .entry)) (now (pool .entry)) (now («first_key» .entry)) (now («second_key» .entry))) (now (answer .exit)) (now («first_key» .exit) ∷ now («second_key» .exit) ∷ []) ⌝ }
+    ensures { λ _. ⌜ RowAnswered 5 soughtValues (twoCall (collationOf collation) (now (first .entry)) (now (second .entry))
+        (now (entries .entry)) (now (pool .entry)) (now («first_key» .entry)) (now («second_key» .entry))) (now
+        (answer .exit)) (now («first_key» .exit) ∷ now («second_key» .exit) ∷ []) ⌝ }
 {
     let sought = search::substring_accepted(
         collation,

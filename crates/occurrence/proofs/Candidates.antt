@@ -1,4 +1,5 @@
--- Laws of the loop that notes a needle's rows: what holds at a candidate j, once it is matched, and once it has its row or needs none.
+-- Laws of the loop that notes a needle's rows: what holds at a candidate j, once it is matched, and once it has its row or
+-- needs none.
 -- Assumes nothing.
 use Prim.Native.Nat.{ℕ, suc, _+_, _-_, _/_, _^_, _≤_, _<_}
 use native.Mathlib.Omega.{arith}

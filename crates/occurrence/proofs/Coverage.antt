@@ -51,7 +51,8 @@ rows-up {x} {P} {R} {n} {j} t h = record {
     go i s a b c d o p (no e) = t .covered i s a (omega arith) c d o p
 
 -- the match is too short for a row
-pub rows-short : {x P R : List ℕ} {n j i : ℕ} → Rows x P R n j → Extended x x j (length x - j) i → i < 2 * j → Rows x P R n (j + 1)
+pub rows-short : {x P R : List ℕ} {n j i : ℕ} → Rows x P R n j → Extended x x j (length x - j) i → i < 2 * j
+    → Rows x P R n (j + 1)
 rows-short t e h = rows-up t (λ l a b o p. omega (arith, ends e b p))
 
 -- ---- the candidates that a shift skips
@@ -72,7 +73,8 @@ rows-on {x} {P} {R} {n} {j} {i} {s} t e pos within shift = record {
     -- no front of i octets has a period below the shift
     none : (v : ℕ) → 0 < v → v < s → v < j + 1 → Period x i v → ⊥
     none v a b c p =
-        t .covered i v a c (omega (arith, shift .within)) (omega (arith, e .within)) (λ k q r. omega (arith, shift .least k q r)) p
+        t .covered i v a c (omega (arith, shift .within)) (omega (arith, e .within))
+        (λ k q r. omega (arith, shift .least k q r)) p
 
     -- a shift over j would skip the period j
     small : (v : ℕ) → v < s → v ≤ j
@@ -85,7 +87,8 @@ rows-on {x} {P} {R} {n} {j} {i} {s} t e pos within shift = record {
     skipped : (l v : ℕ) → 0 < v → v < s → 3 * (j + v) ≤ l → l ≤ length x → Over P R n l (j + v)
         → Period x l (j + v) → Dec (l < j + i) → ⊥
     skipped l v a b c d o p (yes h) =
-        t .covered (j + i) j pos (omega arith) (omega arith) (omega (arith, e .within)) (λ k q r. omega (arith, o k q (omega arith))) whole
+        t .covered (j + i) j pos (omega arith) (omega arith) (omega (arith, e .within))
+        (λ k q r. omega (arith, o k q (omega arith))) whole
     skipped l v a b c d o p (no h) =
         none v a b (omega (arith, small v b))
         (matched-overlap {l = l - (j + v)} v (e .matched) (record { same = λ k g. p .same k (omega arith) }) (omega arith))
@@ -94,7 +97,8 @@ rows-on {x} {P} {R} {n} {j} {i} {s} t e pos within shift = record {
     go l u a b c d o p (yes h) = t .covered l u a h c d o p
     go l u a b c d o p (no h) =
         let split : u ≡ j + (u - j) = omega arith in
-        skipped l (u - j) (omega arith) (omega arith) (omega arith) d (λ k q r. omega (arith, o k q r)) (rw split at p) (decLt l (j + i))
+        skipped l (u - j) (omega arith) (omega arith) (omega arith) d (λ k q r. omega (arith, o k q r)) (rw split at p)
+        (decLt l (j + i))
 
 -- ---- all candidates
 

@@ -51,7 +51,8 @@ occurrence-within needle hay i e =
     omega (arith, found .below, simp (length-take, length-drop) at (ap length (begins-true needle (drop i hay) (found .holds))))
 
 -- nothing is answered: the needle stands nowhere
-pub occurrence-none : (needle hay : List ℕ) → occurrence needle hay ≡ none → (k : ℕ) → (take (length needle) (drop k hay) ≡ needle) → ⊥
+pub occurrence-none : (needle hay : List ℕ) → occurrence needle hay ≡ none → (k : ℕ)
+    → (take (length needle) (drop k hay) ≡ needle) → ⊥
 unfolding occurrence
 occurrence-none needle hay e k s = go (decLe k (length hay))
   where

@@ -50,7 +50,8 @@ pub rows-reached : {x P R : List ℕ} {n j i r : ℕ} → Rows x P R n j → Las
     → 0 < j → j + i ≤ r → Rows x P R n (j + 1)
 rows-reached {P = P} {R} {n} {r = r} t last e a h =
     let row : Row P R n r (last .period) = last .held (omega arith) in
-    rows-up t (λ l b c o q. omega (arith, o (row .number) (row .below) (omega (arith, ends e c q, row .reach)), t .below (row .number) (row .below)))
+    rows-up t (λ l b c o q. omega
+    (arith, o (row .number) (row .below) (omega (arith, ends e c q, row .reach)), t .below (row .number) (row .below)))
 
 -- a new row's period is more than twice the last one's, or else the last row would reach further
 pub doubles : {x P R : List ℕ} {n j i r : ℕ} → Rows x P R n j → (last : Last x P R n r) → Matched x x j i → 0 < j → r < j + i
@@ -67,7 +68,8 @@ doubles {x} {P} {R} {n} {j} {i} {r} t last m pos far within = go (decLt (2 * p) 
         let low : j + a ≡ r - p = omega (arith, last .thrice) in
         let high : j + (p + a) ≡ r = omega (arith, last .thrice) in
         last .stops (omega (arith, last .thrice)) (omega arith)
-        (ap (λ k. getD x k 0) (sym low) ∙ sym (m .same a (omega arith)) ∙ period .same a (omega arith) ∙ m .same (p + a) (omega arith)
+        (ap (λ k. getD x k 0) (sym low) ∙ sym (m .same a (omega arith)) ∙ period .same a (omega arith) ∙ m .same (p + a)
+        (omega arith)
         ∙ ap (λ k. getD x k 0) high)
 
     go : Dec (2 * p < j) → 2 * p < j

@@ -11,7 +11,8 @@ use Rattle.occurrence.specs.Matches.{Matched, Extended, Unmatched, Skipp
 use Rattle.occurrence.specs.Occurrence.{occurrence}
 use Rattle.occurrence.specs.Rows.{Row, Shifted, Rows}
 use Rattle.occurrence.proofs.Laws.{occurrence-is, occurrence-nowhere}
-use Rattle.occurrence.proofs.Matching.{matched-none, matched-less, period-less, matched-on, matched-overlap, stands→matched, stands-within, matched→stands}
+use Rattle.occurrence.proofs.Matching.{matched-none, matched-less, period-less, matched-on, matched-overlap}
+use Rattle.occurrence.proofs.Matching.{stands→matched, stands-within, matched→stands}
 use Rattle.occurrence.proofs.Skips.{unmatched-skipped}
 
 -- ---- a shift

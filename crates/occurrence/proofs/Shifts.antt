@@ -47,7 +47,8 @@ shifted-none p = record {
 }
 
 -- the next row's period is over a third: on past a third
-pub shifted-over : {P R : List ℕ} {n i : ℕ} (k : ℕ) → Ordered P n → Passed R i k → i / 3 < getD P k 0 → Shifted P R n i (i / 3 + 1) 0
+pub shifted-over : {P R : List ℕ} {n i : ℕ} (k : ℕ) → Ordered P n → Passed R i k → i / 3 < getD P k 0
+    → Shifted P R n i (i / 3 + 1) 0
 shifted-over k o p h = record {
   positive = omega arith;
   within = omega arith;

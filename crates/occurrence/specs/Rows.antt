@@ -1,5 +1,5 @@
--- The rows of a needle x: the periods of its fronts that repeat three times or more, in the list `periods`, and beside each in the
--- list `reaches` the length of the longest front that has the period. The first n elements of both lists are rows.
+-- The rows of a needle x: the periods of its fronts that repeat three times or more, in the list `periods`, and beside each
+-- in the list `reaches` the length of the longest front that has the period. The first n elements of both lists are rows.
 -- Assumes nothing.
 use Prim.Native.Nat.{ℕ, suc, _+_, _-_, _*_, _≤_, _<_}
 use mathlib.Core.Path.{_≡_}
@@ -23,8 +23,8 @@ pub record Row (periods reaches : List ℕ) (n i s : ℕ) : Type 0 where
   pub period : getD periods number 0 ≡ s
   pub reach : i ≤ getD reaches number 0
 
--- how far to go on after i matched octets: by the least period that a row gives them, with the others kept as matched, or else past
--- a third of them, with none kept
+-- how far to go on after i matched octets: by the least period that a row gives them, with the others kept as matched, or
+-- else past a third of them, with none kept
 pub record Shifted (periods reaches : List ℕ) (n i by kept : ℕ) : Type 0 where
   pub positive : 0 < by
   pub within : 3 * by ≤ i + 3
@@ -32,7 +32,8 @@ pub record Shifted (periods reaches : List ℕ) (n i by kept : ℕ) : Type 0 whe
   pub held : 0 < kept → Row periods reaches n i by
   pub least : (k : ℕ) → k < n → i ≤ getD reaches k 0 → by ≤ getD periods k 0
 
--- the rows of the periods below j: each is right, and where every row that reaches i has a period over s, s is none of the first i octets
+-- the rows of the periods below j: each is right, and where every row that reaches i has a period over s, s is none of the
+-- first i octets
 pub record Rows (x periods reaches : List ℕ) (n j : ℕ) : Type 0 where
   pub ordered : Ordered periods n
   pub below : (k : ℕ) → k < n → getD periods k 0 < j

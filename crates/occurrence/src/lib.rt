@@ -1,8 +1,9 @@
 // The lowest occurrence of one list of octets in another.
 //
-// `find` takes any two slices. What it remembers of the needle is a table of at most ROWS_MOST rows: the periods of its fronts that
-// repeat three times or more (after Galil and Seiferas, 1983). That the table has room for them all is proved, so there is no slower
-// search to fall back on. That the time grows with the sum of the lengths is no part of a contract: it is measured.
+// `find` takes any two slices. What it remembers of the needle is a table of at most ROWS_MOST rows: the periods of its
+// fronts that repeat three times or more (after Galil and Seiferas, 1983). That the table has room for them all is proved, so
+// there is no slower search to fall back on. That the time grows with the sum of the lengths is no part of a contract: it is
+// measured.
 mod filter;
 mod matches;
 mod places;

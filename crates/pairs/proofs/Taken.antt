@@ -1,5 +1,5 @@
--- A line that the builder takes leaves a state whose entries and pool numbers lie within the slices; a table that passes the check is
--- accepted.
+-- A line that the builder takes leaves a state whose entries and pool numbers lie within the slices; a table that passes the
+-- check is accepted.
 -- Assumes nothing.
 use mathlib.Core.Path.{_≡_, sym, _∙_, ap, subst}
 use Prim.Native.Nat.{ℕ}
@@ -18,7 +18,8 @@ use Rattle.builder.specs.declared.Line.the-variants.{Taken}
 use Rattle.builder.proofs.BuiltForm.{fits-addLine}
 
 -- the state that comes back for a line that is taken
-pub used-taken : {b : Built} {line : List ℕ} {st : LineState} {entries pool : List ℕ} → UsedFits b → Added b line (Taken st) entries pool
+pub used-taken : {b : Built} {line : List ℕ} {st : LineState} {entries pool : List ℕ} → UsedFits b
+    → Added b line (Taken st) entries pool
     → UsedFits (built st entries pool)
 used-taken {b} {line} fits a = subst (λ (c : Built). UsedFits c) (sym (a .left)) (fits-addLine b line fits)
 

@@ -1,5 +1,5 @@
--- What the functions of the program ask of a reader, a table's state and the output, and promise: that places lie within the slices,
--- and that the number by which loops end falls.
+-- What the functions of the program ask of a reader, a table's state and the output, and promise: that places lie within the
+-- slices, and that the number by which loops end falls.
 -- Assumes nothing.
 use Prim.Native.Nat.{ℕ, _+_, _≤_, _<_}
 use mathlib.Core.List.{List}

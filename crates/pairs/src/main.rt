@@ -1,8 +1,8 @@
 // The program `pairs` (document 01, "The program `pairs`"): it builds its table from `ucd.txt`, then prints for each line of
 // standard input how its two texts are ordered.
 //
-// What a program reads and writes can't stand in a contract: here every function is proved safe and ending, and what is decided of
-// a line, and the words that are printed, are contracts of the crates pairing, builder and decompose.
+// What a program reads and writes can't stand in a contract: here every function is proved safe and ending, and what is
+// decided of a line, and the words that are printed, are contracts of the crates pairing, builder and decompose.
 mod answers;
 mod growing;
 mod output;

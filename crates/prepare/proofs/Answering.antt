@@ -32,7 +32,8 @@ module _ {R : Type 0} {outcome : R → Outcome} {values : Call → Option (List 
   answered-refused y e = answerOf-refused x (values c) y (ap some (sym e) ∙ h .answered)
 
   -- a refusal is handed on
-  pub answers-on : {Q : Type 0} {outcome2 : Q → Outcome} {values2 : Call → Option (List ℕ)} {q : Q} {y : Refusal} → outcome r ≡ refused y
+  pub answers-on : {Q : Type 0} {outcome2 : Q → Outcome} {values2 : Call → Option (List ℕ)} {q : Q} {y : Refusal}
+      → outcome r ≡ refused y
       → outcome2 q ≡ refused y
       → Answers outcome2 values2 x c q after
   answers-on {outcome2} {values2} {q} {y} e f =

@@ -1,5 +1,5 @@
--- How the refusal of a call comes apart: 1 to 7, which are checked before a key is looked at, and then 8. So a call that passed 1 to 7
--- answers what is left of it, and a call that did not answers their refusal.
+-- How the refusal of a call comes apart: 1 to 7, which are checked before a key is looked at, and then 8. So a call that
+-- passed 1 to 7 answers what is left of it, and a call that did not answers their refusal.
 -- Assumes nothing.
 use mathlib.Core.Path.{_≡_, refl, sym, ap, _∙_}
 use Prim.Native.Nat.{ℕ, zero-le, _≤_}
@@ -16,7 +16,8 @@ use Rattle.terms.specs.declared.Refusal.{Refusal}
 use Rattle.terms.proofs.Checks.{orElse-none, orElse-first, orElse-second, orElse-neither, when-none}
 use Rattle.table.specs.Table.{Table}
 use Rattle.keys.specs.Keys.{tableUnder}
-use Rattle.prepare.specs.Calls.{Lent, Call, call, lengths, collationCheck, lengthChecks, textsRefusal, tableCheck, readyBy, readyRefusal, roomRefusal, callRefusal, Called, CalledReady}
+use Rattle.prepare.specs.Calls.{Lent, Call, call, lengths, collationCheck, lengthChecks, textsRefusal, tableCheck}
+use Rattle.prepare.specs.Calls.{readyBy, readyRefusal, roomRefusal, callRefusal, Called, CalledReady}
 use Rattle.prepare.specs.Preparing.{Prepares, PreparesReady}
 use Rattle.prepare.specs.Promises.{callCheckRefusal, ChecksTexts, ChecksCall}
 use Rattle.prepare.specs.declared.CallCheck.{CallCheck}
@@ -67,16 +68,19 @@ module _ {o : Option Collation} {a b : ℕ} {q : CallCheck} (h : ChecksTexts o a
       let passed : textsRefusal o (a ∷ b ∷ []) ≡ none = sym (h .refusal) ∙ ap callCheckRefusal e in
       orElse-second _ _ passed ∙ ap (λ (p : Option Collation). tableCheck p t) (h .known k e)
 
-  pub checks-table-passed : {t : Table} {k : Collation} {c : Check} → q ≡ Passed k → checkRefusal c ≡ tableUnder k t → c ≡ TablePassed
+  pub checks-table-passed : {t : Table} {k : Collation} {c : Check} → q ≡ Passed k → checkRefusal c ≡ tableUnder k t
+      → c ≡ TablePassed
       → ChecksCall o a b t (Passed k)
   checks-table-passed {t} {k} e table f = record {
     refusal = ap checkRefusal (sym f) ∙ table ∙ sym (readyBy-passed t e);
     known = λ j g. h .known k e ∙ cc;
   }
 
-  pub checks-table-refused : {t : Table} {k : Collation} {c : Check} {x : Refusal} → q ≡ Passed k → checkRefusal c ≡ tableUnder k t → c ≡ TableRefused x
+  pub checks-table-refused : {t : Table} {k : Collation} {c : Check} {x : Refusal} → q ≡ Passed k
+      → checkRefusal c ≡ tableUnder k t → c ≡ TableRefused x
       → ChecksCall o a b t (Refused x)
-  checks-table-refused {t} e table f = record { refusal = ap checkRefusal (sym f) ∙ table ∙ sym (readyBy-passed t e); known = λ j g. cc }
+  checks-table-refused {t} e table f =
+      record { refusal = ap checkRefusal (sym f) ∙ table ∙ sym (readyBy-passed t e); known = λ j g. cc }
 
   pub checks-texts-refused : {t : Table} {x : Refusal} → q ≡ Refused x → ChecksCall o a b t (Refused x)
   checks-texts-refused {t} {x} e = record {
@@ -133,7 +137,8 @@ module _ {R : Type 0} {outcome : R → Outcome} {values : Call → Option (List 
   called-refused {c} {x} e f = record { answered = rw (callRefusal-refused c x e, f); left = rw (callRefusal-refused c x e) }
 
 -- the same of preparing a text, with the bound of its lookup count
-pub prepares-ready : {o : Option Collation} {k : Collation} {t : Table} {ls : List Lent} {r : Preparation} {after : List ℕ} → o ≡ some k
+pub prepares-ready : {o : Option Collation} {k : Collation} {t : Table} {ls : List Lent} {r : Preparation} {after : List ℕ}
+    → o ≡ some k
     → readyRefusal (call o t ls) ≡ none
     → PreparesReady (call (some k) t ls) r after
     → Prepares (call o t ls) r after

@@ -1,4 +1,5 @@
--- What is left of a call that passed 1 to 7: a summary's numbers say which refusal 8 is, and keys that were written answer the call.
+-- What is left of a call that passed 1 to 7: a summary's numbers say which refusal 8 is, and keys that were written answer
+-- the call.
 -- Assumes nothing.
 use mathlib.Core.Path.{_≡_, refl, sym, ap, ap₂, _∙_}
 use Prim.Native.Nat.{ℕ, zero-le, _≤_}
@@ -77,7 +78,8 @@ filled-written {k} {t} {place} {l} {s} table r filled =
     rw (r .unicode) (record {
       sized = filled .numbers;
       room =
-          room-none (unicodePrepared (mappingOf t) (l .text) (characters (l .text))) s (filled .numbers) place (length (l .buffer))
+          room-none (unicodePrepared (mappingOf t) (l .text) (characters (l .text))) s (filled .numbers) place
+          (length (l .buffer))
           (omega (arith, key-most t (l .text) accepted, r .enough));
       left = filled .left;
     })
@@ -85,7 +87,8 @@ filled-written {k} {t} {place} {l} {s} table r filled =
 -- ---- one text
 
 -- the refusal of one text for its key's room
-roomRefusal-one : (k : Collation) (t : Table) (l : Lent) (s : Summary) → summaryNumbers s ≡ preparedNumbers (prepared k (mappingOf t) (l .text))
+roomRefusal-one : (k : Collation) (t : Table) (l : Lent) (s : Summary)
+    → summaryNumbers s ≡ preparedNumbers (prepared k (mappingOf t) (l .text))
     → roomRefusal (call (some k) t (l ∷ [])) ≡ roomNeeded 1 (length (l .buffer)) s
 roomRefusal-one k t l s sized =
     let p = prepared k (mappingOf t) (l .text) in
@@ -118,7 +121,8 @@ module _ {k : Collation} {t : Table} {l : Lent} where
 -- ---- two texts
 
 -- the refusal of two texts for their keys' room: the first key, then the second
-roomRefusal-two : (k : Collation) (t : Table) (l m : Lent) (one two : Summary) → summaryNumbers one ≡ preparedNumbers (prepared k (mappingOf t) (l .text))
+roomRefusal-two : (k : Collation) (t : Table) (l m : Lent) (one two : Summary)
+    → summaryNumbers one ≡ preparedNumbers (prepared k (mappingOf t) (l .text))
     → summaryNumbers two ≡ preparedNumbers (prepared k (mappingOf t) (m .text))
     → roomRefusal (call (some k) t (l ∷ m ∷ []))
     ≡ orElse (roomNeeded 1 (length (l .buffer)) one) (roomNeeded 2 (length (m .buffer)) two)

@@ -23,7 +23,8 @@ use Rattle.prepare.proofs.Answering.{answered-gives}
 
 -- ---- one text
 
-module _ {k : Collation} {t : Table} {l : Lent} {r : Preparation} {after : List ℕ} (h : Prepares (call (some k) t (l ∷ [])) r after) where
+module _ {k : Collation} {t : Table} {l : Lent} {r : Preparation} {after : List ℕ}
+    (h : Prepares (call (some k) t (l ∷ [])) r after) where
   -- a text that was prepared shows its key
   pub shown-key : callRefusal (call (some k) t (l ∷ [])) ≡ none → shownKey r (l .text) after ≡ keyOf k (mappingOf t) (l .text)
   shown-key e = go r (rw e at (h .call .answered)) (rw e at (h .call .left))
@@ -52,8 +53,10 @@ pub record ShownBoth (k : Collation) (t : Table) (l m : Lent) (one two : Summary
   pub second : shownAt (two .place) (two .«key_length») (m .text) tAfter ≡ keyOf k (mappingOf t) (m .text)
   pub valid : two .valid ≡ prepared k (mappingOf t) (m .text) .valid
 
-module _ {k : Collation} {t : Table} {l m : Lent} {x : Option Refusal} {r : PreparedPair} {sAfter tAfter : List ℕ} {one two : Summary}
-    (h : Answers pairOutcome preparedValues x (call (some k) t (l ∷ m ∷ [])) r (sAfter ∷ tAfter ∷ [])) (e : r ≡ Both one two) where
+module _ {k : Collation} {t : Table} {l m : Lent} {x : Option Refusal} {r : PreparedPair} {sAfter tAfter : List ℕ}
+    {one two : Summary}
+    (h : Answers pairOutcome preparedValues x (call (some k) t (l ∷ m ∷ [])) r (sAfter ∷ tAfter ∷ []))
+    (e : r ≡ Both one two) where
   -- nothing was refused
   pub both-unrefused : x ≡ none
   both-unrefused = answered-gives h _ (ap pairOutcome e) .0

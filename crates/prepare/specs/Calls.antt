@@ -126,9 +126,10 @@ answerOf (some r) v = some (refused r)
 answerOf none none = none
 answerOf none (some values) = some (gives values)
 
--- a call was answered: its outcome is the refusal or the call's values, and the key buffers are those after it. The refusal is the
--- call's, or what is left of it where some checks were passed.
-pub record Answers {R : Type 0} (outcome : R → Outcome) (values : Call → Option (List ℕ)) (x : Option Refusal) (c : Call) (r : R) (after : List (List ℕ)) : Type 0 where
+-- a call was answered: its outcome is the refusal or the call's values, and the key buffers are those after it. The refusal
+-- is the call's, or what is left of it where some checks were passed.
+pub record Answers {R : Type 0} (outcome : R → Outcome) (values : Call → Option (List ℕ)) (x : Option Refusal) (c : Call)
+    (r : R) (after : List (List ℕ)) : Type 0 where
   pub answered : some (outcome r) ≡ answerOf x (values c)
   pub left : after ≡ buffersAfter x c
 

@@ -21,7 +21,8 @@ pub fn check_call(
     entries: &[u32],
     pool: &[u32],
 ) -> CallCheck
-    ensures { λ r. ⌜ ChecksCall (collationOf collation) «first_length» «second_length» (table (now (entries .entry)) (now (pool .entry))) r ⌝ }
+    ensures { λ r. ⌜ ChecksCall (collationOf collation) «first_length» «second_length»
+        (table (now (entries .entry)) (now (pool .entry))) r ⌝ }
 {
     let texts = check_texts(collation, first_length, second_length);
     match texts {

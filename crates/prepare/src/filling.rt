@@ -29,7 +29,9 @@ pub fn fill_one(
 ) -> Preparation
     requires { ⌜ length (now text) ≤ textMost ⌝ }
     requires { ⌜ tableUnder collation (table (now entries) (now pool)) ≡ none ⌝ }
-    ensures { λ r. ⌜ PreparesReady (oneCall (some collation) (now (text .entry)) (now (entries .entry)) (now (pool .entry)) (now (key .entry))) r (now (key .exit)) ⌝ }
+    ensures { λ r. ⌜ PreparesReady
+        (oneCall (some collation) (now (text .entry)) (now (entries .entry)) (now (pool .entry)) (now (key .entry))) r
+        (now (key .exit)) ⌝ }
 {
     if is_roomy(collation, text.len(), key.len()) {
         return Preparation::Prepared(fill_unicode(text, entries, pool, key));
@@ -47,7 +49,9 @@ fn fill_one_sized(
 ) -> Preparation
     requires { ⌜ length (now text) ≤ textMost ⌝ }
     requires { ⌜ tableUnder collation (table (now entries) (now pool)) ≡ none ⌝ }
-    ensures { λ r. ⌜ PreparesReady (oneCall (some collation) (now (text .entry)) (now (entries .entry)) (now (pool .entry)) (now (key .entry))) r (now (key .exit)) ⌝ }
+    ensures { λ r. ⌜ PreparesReady
+        (oneCall (some collation) (now (text .entry)) (now (entries .entry)) (now (pool .entry)) (now (key .entry))) r
+        (now (key .exit)) ⌝ }
 {
     let summary = size_key(collation, text, entries, pool);
     let room = check_room(1, summary, key.len());
@@ -73,7 +77,9 @@ pub fn fill_two(
     requires { ⌜ length (now first) ≤ textMost ⌝ }
     requires { ⌜ length (now second) ≤ textMost ⌝ }
     requires { ⌜ tableUnder collation (table (now entries) (now pool)) ≡ none ⌝ }
-    ensures { λ r. ⌜ CalledReady pairOutcome preparedValues (twoCall (some collation) (now (first .entry)) (now (second .entry)) (now (entries .entry)) (now (pool .entry)) (now («first_key» .entry)) (now («second_key» .entry))) r (now («first_key» .exit) ∷ now («second_key» .exit) ∷ []) ⌝ }
+    ensures { λ r. ⌜ CalledReady pairOutcome preparedValues (twoCall (some collation) (now (first .entry))
+        (now (second .entry)) (now (entries .entry)) (now (pool .entry)) (now («first_key» .entry))
+        (now («second_key» .entry))) r (now («first_key» .exit) ∷ now («second_key» .exit) ∷ []) ⌝ }
 {
     if is_roomy(collation, first.len(), first_key.len()) {
         if is_roomy(collation, second.len(), second_key.len()) {
@@ -106,7 +112,9 @@ fn fill_two_sized(
     requires { ⌜ length (now first) ≤ textMost ⌝ }
     requires { ⌜ length (now second) ≤ textMost ⌝ }
     requires { ⌜ tableUnder collation (table (now entries) (now pool)) ≡ none ⌝ }
-    ensures { λ r. ⌜ CalledReady pairOutcome preparedValues (twoCall (some collation) (now (first .entry)) (now (second .entry)) (now (entries .entry)) (now (pool .entry)) (now («first_key» .entry)) (now («second_key» .entry))) r (now («first_key» .exit) ∷ now («second_key» .exit) ∷ []) ⌝ }
+    ensures { λ r. ⌜ CalledReady pairOutcome preparedValues (twoCall (some collation) (now (first .entry))
+        (now (second .entry)) (now (entries .entry)) (now (pool .entry)) (now («first_key» .entry))
+        (now («second_key» .entry))) r (now («first_key» .exit) ∷ now («second_key» .exit) ∷ []) ⌝ }
 {
     let one = size_key(collation, first, entries, pool);
     let two = size_key(collation, second, entries, pool);

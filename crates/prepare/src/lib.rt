@@ -1,8 +1,8 @@
 // Calls that prepare texts (document 01, "Preparation", "Refusal numbers"): their checks, and the keys left in the key buffers.
 //
-// `prepare` and `shown_key` take any arguments at all: a checked call is its check, and then its `_accepted` twin, which asks for a table
-// that is accepted already. The functions of the module filling work where 1 to 7 were passed, and say so: comparing calls stand on
-// `check_call`, `check_texts` and `fill_two`.
+// `prepare` and `shown_key` take any arguments at all: a checked call is its check, and then its `_accepted` twin, which asks
+// for a table that is accepted already. The functions of the module filling work where 1 to 7 were passed, and say so:
+// comparing calls stand on `check_call`, `check_texts` and `fill_two`.
 mod checks;
 mod filling;
 
@@ -46,7 +46,9 @@ pub fn prepare(
     pool: &[u32],
     key: &mut [u8],
 ) -> Preparation
-    ensures { λ r. ⌜ Prepares (oneCall (collationOf collation) (now (text .entry)) (now (entries .entry)) (now (pool .entry)) (now (key .entry))) r (now (key .exit)) ⌝ }
+    ensures { λ r. ⌜ Prepares
+        (oneCall (collationOf collation) (now (text .entry)) (now (entries .entry)) (now (pool .entry)) (now (key .entry))) r
+        (now (key .exit)) ⌝ }
 {
     let checked = check_call(collation, text.len(), 0, entries, pool);
     match checked {
@@ -64,7 +66,9 @@ pub fn prepare_accepted(
     key: &mut [u8],
 ) -> Preparation
     requires { ⌜ tableCheck (collationOf collation) (table (now entries) (now pool)) ≡ none ⌝ }
-    ensures { λ r. ⌜ Prepares (oneCall (collationOf collation) (now (text .entry)) (now (entries .entry)) (now (pool .entry)) (now (key .entry))) r (now (key .exit)) ⌝ }
+    ensures { λ r. ⌜ Prepares
+        (oneCall (collationOf collation) (now (text .entry)) (now (entries .entry)) (now (pool .entry)) (now (key .entry))) r
+        (now (key .exit)) ⌝ }
 {
     let texts = check_texts(collation, text.len(), 0);
     match texts {
@@ -73,8 +77,8 @@ pub fn prepare_accepted(
     }
 }
 
-// The key of a text after it was prepared, as a part of the text or of the key buffer; empty on a refusal, and where the
-// preparation is not of these slices.
+// The key of a text after it was prepared, as a part of the text or of the key buffer; empty on a refusal. Of a preparation
+// of other slices: so many octets of these, and none where there are fewer.
 pub fn shown_key<'a>(text: &'a [u8], key: &'a [u8], preparation: Preparation) -> &'a [u8]
     ensures { λ r. ⌜ now r ≡ shownKey preparation (now (text .entry)) (now (key .entry)) ⌝ }
 {

@@ -47,7 +47,8 @@ returns-4 c =
     let told = asked .before in
     let args = told .before .before .before .before .before .args in
     rw (told .enum-told3 .given .1)
-    (filled-kept (mappingOf (table (args .entries .now) (args .pool .now))) (args .text .now) [] (characters (args .text .now)) (c .kept .result)
+    (filled-kept (mappingOf (table (args .entries .now) (args .pool .now))) (args .text .now) []
+    (characters (args .text .now)) (c .kept .result)
     (sym (asked .is-valid .ensures) ∙ c .before .if1 .left) (c .kept .ensures) .numbers)
 
 pub size-key-spec : {M : Type 1} → statement M

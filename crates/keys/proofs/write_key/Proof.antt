@@ -20,7 +20,8 @@ start c = c .before .before .before .before .before .before
 valid : (c : tie.After-enum-told3) → start c .args .summary .valid ≡ there (characters (start c .args .text .now))
 valid c =
     let s = start c in
-    summary-valid _ (c .enum-told3 .given .1) (mappingOf (table (s .args .entries .now) (s .args .pool .now))) (s .args .text .now) (s .args .summary)
+    summary-valid _ (c .enum-told3 .given .1) (mappingOf (table (s .args .entries .now) (s .args .pool .now)))
+    (s .args .text .now) (s .args .summary)
     (s .pre .1 .1 .0)
 
 enum-told : tie.Need-enum-told
@@ -67,14 +68,16 @@ same-length-2 c = search needs
 
 returns-3 : tie.Need-returns-3
 returns-3 c =
-    let called = c .before .before in rw (called .before .before .before .enum-told3 .given .1) (called .write-unicode .ensures .left)
+    let called = c .before .before in rw (called .before .before .before .enum-told3 .given .1)
+    (called .write-unicode .ensures .left)
 
 returns-4 : tie.Need-returns-4
 returns-4 c =
     let told = c .before in
     let args = start told .args in
     rw (told .enum-told3 .given .1)
-    (keyed-invalid (mappingOf (table (args .entries .now) (args .pool .now))) (args .text .now) (args .key .now) (characters (args .text .now))
+    (keyed-invalid (mappingOf (table (args .entries .now) (args .pool .now))) (args .text .now) (args .key .now)
+    (characters (args .text .now))
     (sym (valid told) ∙ c .if1 .left))
 
 pub write-key-spec : {M : Type 1} → statement M

@@ -17,7 +17,8 @@ answer-all-requires : tie.Need-answer-all-requires
 answer-all-requires c κs =
     let p = c .before .before .before in
     let a = p .before .before .before .before .args in
-    accepted (table (a .entries .now) (a .pool .now)) (p .check-table .result) (c .before .enum-told .given .1) (p .check-table .ensures)
+    accepted (table (a .entries .now) (a .pool .now)) (p .check-table .result) (c .before .enum-told .given .1)
+    (p .check-table .ensures)
 
 enum-known-check : tie.Need-enum-known-check
 enum-known-check c = search needs

@@ -1,4 +1,5 @@
--- `prepare::prepare` meets its contract: `check_call` answers the front of the call, and `prepare_accepted` the call that passed it.
+-- `prepare::prepare` meets its contract: `check_call` answers the front of the call, and `prepare_accepted` the call that
+-- passed it.
 -- Assumes nothing.
 use borrow.Author.Needs.{needs}
 use Rattle.prepare.proofs.CallRefusals.{checks-passed, checks-refused, prepares-refused}

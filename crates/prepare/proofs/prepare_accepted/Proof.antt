@@ -6,13 +6,15 @@ use borrow.Author.Needs.{needs}
 use Rattle.terms.specs.Collations.{collationOf}
 use Rattle.table.specs.Table.{table}
 use Rattle.prepare.specs.Promises.{ChecksCall}
-use Rattle.prepare.proofs.CallRefusals.{checks-texts, ready-table, checks-passed, checks-refused, prepares-ready, prepares-refused}
+use Rattle.prepare.proofs.CallRefusals.{checks-texts, ready-table, checks-passed, checks-refused, prepares-ready}
+use Rattle.prepare.proofs.CallRefusals.{prepares-refused}
 use Rattle.prepare.proofs.prepare_accepted.Statement.{statement}
 use Rattle.prepare.proofs.prepare_accepted.Tie as tie
 
 -- the front was checked
 checked : (c : tie.After-check-texts) → let args = c .before .before .before .before .before .args in
-    ChecksCall (collationOf (args .collation)) (length (args .text .now)) 0 (table (args .entries .now) (args .pool .now)) (c .check-texts .result)
+    ChecksCall (collationOf (args .collation)) (length (args .text .now)) 0 (table (args .entries .now) (args .pool .now))
+    (c .check-texts .result)
 checked c = checks-texts (c .before .before .before .before .before .pre) (c .check-texts .ensures)
 
 check-texts-requires : tie.Need-check-texts-requires

@@ -61,7 +61,8 @@ loop-again c =
     let raised = c .before .before in
     let l = head raised in
     let s = start l in
-    let more = raising-more (s .args .text .now) (s .args .key .now) (l .loop .at .0) (l .loop .key) (l .loop .inv .1) (raised .raised .result)
+    let more = raising-more (s .args .text .now) (s .args .key .now) (l .loop .at .0) (l .loop .key) (l .loop .inv .1)
+    (raised .raised .result)
     (raised .before .before .if1 .taken) (s .pre) (raised .raised .ensures) in
     (omega (arith, l .loop .inv .0), rw (l .loop .inv .0) more)
 

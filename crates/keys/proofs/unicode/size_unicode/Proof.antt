@@ -1,6 +1,6 @@
 -- `keys::unicode::size_unicode` meets its contract. The loop's invariant: the characters up to `at` came to `end` octets and
--- `lookups` lookups, and the text's numbers go by these and by what follows (`Sizing`), which is valid. The measure is what is left
--- of the text.
+-- `lookups` lookups, and the text's numbers go by these and by what follows (`Sizing`), which is valid. The measure is what
+-- is left of the text.
 -- Assumes nothing.
 use mathlib.Core.Path.{_≡_, sym, _∙_}
 use mathlib.Core.Bool.{true}
@@ -61,7 +61,8 @@ more c =
     let r = c .before in
     let l = head r in
     let accepted = accepted-all (table (start l .args .entries .now) (start l .args .pool .now)) (start l .pre .1 .0) in
-    sizing-more utf8-decodes (l .loop .inv .0) accepted (read r) (c .size-expansion .result) (decoded r) (c .size-expansion .ensures)
+    sizing-more utf8-decodes (l .loop .inv .0) accepted (read r) (c .size-expansion .result) (decoded r)
+    (c .size-expansion .ensures)
 
 -- so they are few
 few : (c : tie.After-size-expansion Inv-loop μ-loop)

@@ -1,6 +1,6 @@
--- `keys::unicode::write_unicode` meets its contract. The loop's invariant: the characters up to `at` came to `end` octets and `lookups`
--- lookups (`Sizing`), and were written into the first `end` octets of the buffer (`Writing`); the key and the numbers are these and
--- those of what follows. The measure is what is left of the text.
+-- `keys::unicode::write_unicode` meets its contract. The loop's invariant: the characters up to `at` came to `end` octets and
+-- `lookups` lookups (`Sizing`), and were written into the first `end` octets of the buffer (`Writing`); the key and the
+-- numbers are these and those of what follows. The measure is what is left of the text.
 -- Assumes nothing.
 use mathlib.Core.Path.{_≡_, sym}
 use mathlib.Core.List.{List, _++_}
@@ -17,7 +17,8 @@ use Rattle.utf8.specs.Promises.{characterOf}
 use Rattle.utf8.proofs.Characters.{utf8-decodes}
 use Rattle.utf8.proofs.Decoders.{decode-drop-fits, there-next}
 use Rattle.decompose.proofs.Demand3.{accepted-all}
-use Rattle.keys.proofs.Walks.{Sizing, sizing-start, sizing-more, sizing-done, Writing, writing-start, writing-more, writing-done, writing-length, writing-end, writing-room}
+use Rattle.keys.proofs.Walks.{Sizing, sizing-start, sizing-more, sizing-done, Writing, writing-start, writing-more}
+use Rattle.keys.proofs.Walks.{writing-done, writing-length, writing-end, writing-room}
 use Rattle.keys.proofs.unicode.write_unicode.Statement.{statement}
 use Rattle.keys.proofs.unicode.write_unicode.Tie as tie
 

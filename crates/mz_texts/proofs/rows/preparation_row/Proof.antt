@@ -1,5 +1,5 @@
--- `mz_texts::rows::preparation_row` meets its contract: each variant is a case of `preparationOutcome`, and two of the numbers come
--- from functions of their own.
+-- `mz_texts::rows::preparation_row` meets its contract: each variant is a case of `preparationOutcome`, and two of the
+-- numbers come from functions of their own.
 -- Assumes nothing.
 use mathlib.Core.Path.{sym, ap}
 use borrow.Author.Needs.{needs}

@@ -1,5 +1,5 @@
--- `occurrence::filter::is_clear` meets its contract. The loop's invariant: where the needle stands at a place passed, the least is 0.
--- The measure is how many places of the block are left. Assumes nothing.
+-- `occurrence::filter::is_clear` meets its contract. The loop's invariant: where the needle stands at a place passed, the
+-- least is 0. The measure is how many places of the block are left. Assumes nothing.
 use Prim.Native.Nat.{_≤_, _-_, _/_}
 use native.Mathlib.Omega.{arith}
 use mathlib.Core.Path.{_≡_}

@@ -1,5 +1,5 @@
--- `occurrence::filter::skip_blocks` meets its contract. The loop's invariant: the blocks passed are skipped. The measure is what is left of
--- the hay. Assumes nothing.
+-- `occurrence::filter::skip_blocks` meets its contract. The loop's invariant: the blocks passed are skipped. The measure is
+-- what is left of the hay. Assumes nothing.
 use Prim.Native.Nat.{_-_}
 use native.Mathlib.Omega.{arith}
 use lib.ListN.{length}

@@ -1,5 +1,5 @@
--- `occurrence::filter::skip_places` meets its contract. The loop's invariant: the places passed are skipped. The measure is how many are
--- left up to the stop. Assumes nothing.
+-- `occurrence::filter::skip_places` meets its contract. The loop's invariant: the places passed are skipped. The measure is
+-- how many are left up to the stop. Assumes nothing.
 use Prim.Native.Nat.{_-_, _/_}
 use native.Mathlib.Omega.{arith}
 use mathlib.Core.Path.{refl}

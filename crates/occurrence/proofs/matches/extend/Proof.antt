@@ -1,4 +1,5 @@
--- `occurrence::matches::extend` meets its contract. The loop's invariant: the octets passed match. The measure is what is left of `most`.
+-- `occurrence::matches::extend` meets its contract. The loop's invariant: the octets passed match. The measure is what is
+-- left of `most`.
 -- Assumes nothing.
 use Prim.Native.Nat.{_≤_, _-_}
 use native.Mathlib.Omega.{arith}

@@ -1,5 +1,5 @@
--- `occurrence::places::search` meets its contract. The loop's invariant: the needle stands at no place below j, and i octets are known to
--- match at j. The measure is how many places are left. Assumes nothing.
+-- `occurrence::places::search` meets its contract. The loop's invariant: the needle stands at no place below j, and i octets
+-- are known to match at j. The measure is how many places are left. Assumes nothing.
 use Prim.Native.Nat.{suc, _≤_, _-_}
 use native.Mathlib.Omega.{arith}
 use mathlib.Core.Path.{sym}
@@ -7,7 +7,8 @@ use mathlib.Core.Logic.{⊎-elim}
 use lib.ListN.{length}
 use Rattle.occurrence.specs.Matches.{Matched, Unmatched}
 use Rattle.occurrence.proofs.Matching.{matched-none}
-use Rattle.occurrence.proofs.Searching.{matched-shifted, unmatched-none, unmatched-on, occurrence-matched, occurrence-unmatched, Reached, reached-skipped, reached-kept}
+use Rattle.occurrence.proofs.Searching.{matched-shifted, unmatched-none, unmatched-on, occurrence-matched}
+use Rattle.occurrence.proofs.Searching.{occurrence-unmatched, Reached, reached-skipped, reached-kept}
 use Rattle.occurrence.proofs.places.search.Statement.{statement}
 use Rattle.occurrence.proofs.places.search.Tie as tie
 
@@ -64,7 +65,8 @@ least-shift-requires c κs =
 add-j : tie.Need-add-j Inv-loop μ-loop
 add-j c =
     let at = joined (c .before .before .before .before .before) in
-    omega (arith, c .before .before .least-shift .ensures .within, c .before .before .before .before .extend .ensures .within, at .room)
+    omega
+    (arith, c .before .before .least-shift .ensures .within, c .before .before .before .before .extend .ensures .within, at .room)
 
 loop-less : tie.Need-loop-less Inv-loop μ-loop
 loop-less c =

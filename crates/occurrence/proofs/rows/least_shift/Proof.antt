@@ -1,4 +1,5 @@
--- `occurrence::rows::least_shift` meets its contract. The loop's invariant: no row passed reaches i. The measure is how many are left.
+-- `occurrence::rows::least_shift` meets its contract. The loop's invariant: no row passed reaches i. The measure is how many
+-- are left.
 -- Assumes nothing.
 use Prim.Native.Nat.{_≤_, _-_}
 use native.Mathlib.Omega.{arith}

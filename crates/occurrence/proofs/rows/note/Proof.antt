@@ -1,11 +1,12 @@
--- `occurrence::rows::note` meets its contract. The loop's invariant: the table has the rows of the periods below j, and i octets are known to
--- match at candidate j. The measure is how many candidates are left. Assumes nothing.
+-- `occurrence::rows::note` meets its contract. The loop's invariant: the table has the rows of the periods below j, and i
+-- octets are known to match at candidate j. The measure is how many candidates are left. Assumes nothing.
 use Prim.Native.Nat.{suc, _+_, _-_}
 use native.Mathlib.Omega.{arith}
 use lib.ListN.{length}
 use mathlib.Core.Logic.{⊎-elim}
 use Rattle.occurrence.proofs.Coverage.{rows-all}
-use Rattle.occurrence.proofs.Candidates.{Table, Candidate, table-none, candidate-first, table-short, table-reached, table-noted, table-same, table-on, candidate-on}
+use Rattle.occurrence.proofs.Candidates.{Table, Candidate, table-none, candidate-first, table-short, table-reached}
+use Rattle.occurrence.proofs.Candidates.{table-noted, table-same, table-on, candidate-on}
 use Rattle.occurrence.proofs.rows.note.Statement.{statement}
 use Rattle.occurrence.proofs.rows.note.Tie as tie
 

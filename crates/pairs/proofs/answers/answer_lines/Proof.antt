@@ -1,6 +1,6 @@
--- `pairs::answers::answer_lines` is safe and ends. The loop's invariant: the four slices are as long as they were, the reader stands
--- within the buffer, the output buffer has room for one line more, and the lines counted and the steps left are no more than the
--- steps at the start. The measure is the steps that the reader has left.
+-- `pairs::answers::answer_lines` is safe and ends. The loop's invariant: the four slices are as long as they were, the reader
+-- stands within the buffer, the output buffer has room for one line more, and the lines counted and the steps left are no
+-- more than the steps at the start. The measure is the steps that the reader has left.
 -- Assumes nothing.
 use mathlib.Core.Path.{_≡_, refl, sym, _∙_, subst}
 use Prim.Native.Nat.{_+_, _≤_}
@@ -25,7 +25,8 @@ Inv-loop fd buffer₀ entries pool first-key₀ second-key₀ out₀ reader₀ o
     × (count + reader .left ≤ 1152921504606846976)
 
 abbrev μ-loop : tie.MeasureT-loop
-μ-loop fd buffer₀ entries pool first-key₀ second-key₀ out₀ reader₀ output₀ count₀ buffer first-key second-key out reader output count = reader .left
+μ-loop fd buffer₀ entries pool first-key₀ second-key₀ out₀ reader₀ output₀ count₀ buffer first-key second-key out reader output count =
+    reader .left
 
 -- at the loop's head: the function's entry, and that the output buffer is as long as it was there
 abbrev entry : tie.At-loop Inv-loop μ-loop → tie.Start Inv-loop μ-loop

@@ -26,7 +26,8 @@ line-came : (k : tie.After-next)
     → let s = start (asked k) in
     Nexts (length (s .args .buffer .now)) (s .args .reader .left)
     (Line (k .next .given .0 .0) (k .next .given .0 .1 .0) (k .next .given .0 .1 .1 .0))
-line-came k = came (asked k) (Line (k .next .given .0 .0) (k .next .given .0 .1 .0) (k .next .given .0 .1 .1 .0)) (k .next .given .1)
+line-came k =
+    came (asked k) (Line (k .next .given .0 .0) (k .next .given .0 .1 .0) (k .next .given .0 .1 .1 .0)) (k .next .given .1)
 
 next-line-requires : tie.Need-next-line-requires
 next-line-requires c κs = search needs

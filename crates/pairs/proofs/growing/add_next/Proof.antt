@@ -1,5 +1,5 @@
--- `pairs::growing::add_next` promises where the reader goes on, and a state within the slices: a line that came is added, and every
--- other answer ends the reading.
+-- `pairs::growing::add_next` promises where the reader goes on, and a state within the slices: a line that came is added, and
+-- every other answer ends the reading.
 -- Assumes nothing.
 use mathlib.Core.Path.{_≡_, subst}
 use native.Mathlib.Omega.{arith}
@@ -27,7 +27,8 @@ line-came : (k : tie.After-next)
     → let s = start (asked k) in
     Nexts (length (s .args .buffer .now)) (s .args .reader .left)
     (Line (k .next .given .0 .0) (k .next .given .0 .1 .0) (k .next .given .0 .1 .1 .0))
-line-came k = came (asked k) (Line (k .next .given .0 .0) (k .next .given .0 .1 .0) (k .next .given .0 .1 .1 .0)) (k .next .given .1)
+line-came k =
+    came (asked k) (Line (k .next .given .0 .0) (k .next .given .0 .1 .0) (k .next .given .0 .1 .1 .0)) (k .next .given .1)
 
 next-line-requires : tie.Need-next-line-requires
 next-line-requires c κs = search needs

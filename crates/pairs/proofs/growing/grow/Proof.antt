@@ -1,5 +1,6 @@
--- `pairs::growing::grow` promises a state within the slices. The loop's invariant: the three slices are as long as they were, the reader
--- stands within the buffer, and what the state says is used lies within the slices. The measure is the steps that the reader has left.
+-- `pairs::growing::grow` promises a state within the slices. The loop's invariant: the three slices are as long as they were,
+-- the reader stands within the buffer, and what the state says is used lies within the slices. The measure is the steps that
+-- the reader has left.
 -- Assumes nothing.
 use mathlib.Core.Path.{_≡_, refl, sym, _∙_, subst}
 use native.Mathlib.Omega.{arith}
@@ -32,10 +33,13 @@ abbrev head : tie.After-add-next Inv-loop μ-loop → tie.At-loop Inv-loop μ-lo
 head p = p .before .before .before .before
 
 became : (p : tie.After-add-next Inv-loop μ-loop) (x : Added) → p .add-next .result ≡ x
-    → let l = head p .loop in AddedFits (length (l .buffer)) (l .reader .left) (p .add-next .last .1 .1 .1 .1 .0) (p .add-next .last .1 .1 .1 .1 .1 .0) x
+    → let l =
+    head p .loop in AddedFits (length (l .buffer)) (l .reader .left) (p .add-next .last .1 .1 .1 .1 .0)
+    (p .add-next .last .1 .1 .1 .1 .1 .0) x
 became p x e =
     let l = head p .loop in
-    subst (AddedFits (length (l .buffer)) (l .reader .left) (p .add-next .last .1 .1 .1 .1 .0) (p .add-next .last .1 .1 .1 .1 .1 .0)) e
+    subst
+    (AddedFits (length (l .buffer)) (l .reader .left) (p .add-next .last .1 .1 .1 .1 .0) (p .add-next .last .1 .1 .1 .1 .1 .0)) e
     (p .add-next .ensures)
 
 -- where it was taken

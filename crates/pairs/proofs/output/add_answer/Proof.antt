@@ -18,7 +18,8 @@ room p = omega (arith, entry p .pre)
 ends : (p : tie.After-put-answer) → entry p .args .output .used + p .put-answer .result ≤ length (entry p .args .out .now)
 ends p =
     let a = entry p .args in
-    lined-within (a .output .used) (a .out .now) (p .put-answer .last .1 .0) (room p) (p .put-answer .kept .1 .0) _ (p .put-answer .result)
+    lined-within (a .output .used) (a .out .now) (p .put-answer .last .1 .0) (room p) (p .put-answer .kept .1 .0) _
+    (p .put-answer .result)
     (p .put-answer .ensures)
 
 sub-put-answer : tie.Need-sub-put-answer
@@ -42,7 +43,8 @@ sub-if1 : tie.Need-sub-if1
 sub-if1 c =
     let p = c .before .before in
     let a = entry p .args in
-    lined-ends (a .output .used) (a .out .now) (p .put-answer .last .1 .0) (room p) (p .put-answer .kept .1 .0) _ (p .put-answer .result)
+    lined-ends (a .output .used) (a .out .now) (p .put-answer .last .1 .0) (room p) (p .put-answer .kept .1 .0) _
+    (p .put-answer .result)
     (p .put-answer .ensures)
 
 same-length : tie.Need-same-length
@@ -56,7 +58,8 @@ write-front-requires : tie.Need-write-front-requires
 write-front-requires c κs =
     let p = c .before .before .before .before in
     let a = entry p .args in
-    lined-ends (a .output .used) (a .out .now) (p .put-answer .last .1 .0) (room p) (p .put-answer .kept .1 .0) _ (p .put-answer .result)
+    lined-ends (a .output .used) (a .out .now) (p .put-answer .last .1 .0) (room p) (p .put-answer .kept .1 .0) _
+    (p .put-answer .result)
     (p .put-answer .ensures)
 
 same-length-2 : tie.Need-same-length-2

@@ -18,7 +18,8 @@ room p = omega (arith, entry p .pre)
 ends : (p : tie.After-put-count) → entry p .args .output .used + p .put-count .result ≤ length (entry p .args .out .now)
 ends p =
     let a = entry p .args in
-    lined-within (a .output .used) (a .out .now) (p .put-count .last .1 .0) (room p) (p .put-count .kept .1 .0) _ (p .put-count .result)
+    lined-within (a .output .used) (a .out .now) (p .put-count .last .1 .0) (room p) (p .put-count .kept .1 .0) _
+    (p .put-count .result)
     (p .put-count .ensures)
 
 sub-put-count : tie.Need-sub-put-count
@@ -42,7 +43,8 @@ write-front-requires : tie.Need-write-front-requires
 write-front-requires c κs =
     let p = c .before .before .before in
     let a = entry p .args in
-    lined-ends (a .output .used) (a .out .now) (p .put-count .last .1 .0) (room p) (p .put-count .kept .1 .0) _ (p .put-count .result)
+    lined-ends (a .output .used) (a .out .now) (p .put-count .last .1 .0) (room p) (p .put-count .kept .1 .0) _
+    (p .put-count .result)
     (p .put-count .ensures)
 
 same-length : tie.Need-same-length

@@ -16,7 +16,8 @@ write-front-requires c κs =
     let a = p .before .before .before .args in
     omega (
       arith,
-      puts-within _ (a .out .now) (p .put-table-refusal .result) (p .put-table-refusal .last .1 .0) (p .put-table-refusal .ensures)
+      puts-within _ (a .out .now) (p .put-table-refusal .result) (p .put-table-refusal .last .1 .0)
+          (p .put-table-refusal .ensures)
           (p .put-table-refusal .kept .1 .0),
       p .put-table-refusal .kept .1 .0,
     )

@@ -28,7 +28,8 @@ same-length-2 c = search needs
 
 -- the input has ended
 returns-2 : tie.Need-returns-2
-returns-2 c = let s = c .before .before .before .before .before .before in c .finish .ensures (length (s .args .buffer .now)) (s .pre)
+returns-2 c =
+    let s = c .before .before .before .before .before .before in c .finish .ensures (length (s .args .buffer .now)) (s .pre)
 
 make-room-requires : tie.Need-make-room-requires
 make-room-requires c κs = search needs
@@ -45,7 +46,8 @@ returns-3 c =
     let filled = c .before .before in
     let ready = filled .before .before .before .before in
     let s = ready .before .before .before .before .before .before .before in
-    steps-on _ _ _ (suc (s .args .r .left)) (ready .make-room .kept .0) (ready .make-room .ensures .falls) (filled .fill .result) (filled .fill .ensures)
+    steps-on _ _ _ (suc (s .args .r .left)) (ready .make-room .kept .0) (ready .make-room .ensures .falls)
+    (filled .fill .result) (filled .fill .ensures)
 
 pub advance-spec : {M : Type 1} → statement M
 advance-spec =

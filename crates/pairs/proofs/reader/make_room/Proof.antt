@@ -1,5 +1,5 @@
--- `pairs::reader::make_room` leaves a reader that stands within the buffer: the octets that are still wanted end where those that were
--- read do.
+-- `pairs::reader::make_room` leaves a reader that stands within the buffer: the octets that are still wanted end where those
+-- that were read do.
 -- Assumes nothing.
 use Prim.Native.Nat.{_≤_}
 use lib.ListN.{length}

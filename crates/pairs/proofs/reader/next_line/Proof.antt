@@ -1,5 +1,5 @@
--- `pairs::reader::next_line` promises where the reader goes on. The loop's invariant: the buffer is as long as it was, the reader stands
--- within it, and has no more steps left than at the start. The measure is the steps that are left.
+-- `pairs::reader::next_line` promises where the reader goes on. The loop's invariant: the buffer is as long as it was, the
+-- reader stands within it, and has no more steps left than at the start. The measure is the steps that are left.
 -- Assumes nothing.
 use mathlib.Core.Path.{_≡_, refl, subst}
 use Prim.Native.Nat.{suc, _-_, _≤_, _<_}

@@ -1,5 +1,5 @@
--- `pairs::reader::shift` is safe and ends. The loop's invariant: the place reached is between the two, and the buffer is as long as it
--- was. The measure is what is left.
+-- `pairs::reader::shift` is safe and ends. The loop's invariant: the place reached is between the two, and the buffer is as
+-- long as it was. The measure is what is left.
 -- Assumes nothing.
 use mathlib.Core.Path.{_≡_}
 use Prim.Native.Nat.{_≤_, _-_}

@@ -1,4 +1,5 @@
--- `prepare::checks::check_call` meets its contract: what `check_texts` answers is the whole answer, or leaves it to the table's check.
+-- `prepare::checks::check_call` meets its contract: what `check_texts` answers is the whole answer, or leaves it to the
+-- table's check.
 -- Assumes nothing.
 use borrow.Author.Needs.{needs}
 use Rattle.prepare.proofs.CallRefusals.{checks-table-passed, checks-table-refused, checks-texts-refused}
@@ -28,7 +29,8 @@ returns : tie.Need-returns
 returns c =
     let called = c .before .before in
     let known = called .before .before in
-    checks-table-passed (known .before .before .check-texts .ensures) (known .texts .given .1) (called .check-table-under .ensures)
+    checks-table-passed (known .before .before .check-texts .ensures) (known .texts .given .1)
+    (called .check-table-under .ensures)
     (c .enum-told .given .1)
 
 -- it is refused
@@ -36,7 +38,8 @@ returns-2 : tie.Need-returns-2
 returns-2 c =
     let called = c .before .before .before in
     let known = called .before .before in
-    checks-table-refused (known .before .before .check-texts .ensures) (known .texts .given .1) (called .check-table-under .ensures)
+    checks-table-refused (known .before .before .check-texts .ensures) (known .texts .given .1)
+    (called .check-table-under .ensures)
     (c .before .checked .given .1)
 
 -- 1 or 2

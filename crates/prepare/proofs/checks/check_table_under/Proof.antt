@@ -1,4 +1,5 @@
--- `prepare::checks::check_table_under` meets its contract: where the collation reads the table, the answer is that of `check_table`.
+-- `prepare::checks::check_table_under` meets its contract: where the collation reads the table, the answer is that of
+-- `check_table`.
 -- Assumes nothing.
 use mathlib.Core.Path.{sym, _∙_}
 use borrow.Author.Needs.{needs}

@@ -18,7 +18,8 @@ use Rattle.prepare.proofs.checks.check_texts.Statement.{statement}
 use Rattle.prepare.proofs.checks.check_texts.Tie as tie
 
 -- a refusal
-texts-refused : {o : Option Collation} {a b : ℕ} {r : CallCheck} {x : Refusal} → r ≡ Refused x → textsRefusal o (a ∷ b ∷ []) ≡ some x
+texts-refused : {o : Option Collation} {a b : ℕ} {r : CallCheck} {x : Refusal} → r ≡ Refused x
+    → textsRefusal o (a ∷ b ∷ []) ≡ some x
     → ChecksTexts o a b r
 texts-refused e f = record { refusal = ap callCheckRefusal e ∙ sym f; known = λ k g. cc }
 

@@ -1,4 +1,5 @@
--- `prepare::filling::fill_one` meets its contract: in a roomy buffer 8 does not apply, and the key is filled in; else it is sized first.
+-- `prepare::filling::fill_one` meets its contract: in a roomy buffer 8 does not apply, and the key is filled in; else it is
+-- sized first.
 -- Assumes nothing.
 use mathlib.Core.Path.{sym, _∙_}
 use lib.ListN.{length}
@@ -24,8 +25,10 @@ is-roomy-requires c κs = search needs
 fill-unicode-requires : tie.Need-fill-unicode-requires
 fill-unicode-requires c κs =
     let r = c .before in
-    let s = start r in
-    (s .pre .0, (tableUnder-unicode _ (enough r .unicode) (table (s .args .entries .now) (s .args .pool .now)) (s .pre .1), enough r .enough))
+    let s = start r in (
+      s .pre .0,
+      (tableUnder-unicode _ (enough r .unicode) (table (s .args .entries .now) (s .args .pool .now)) (s .pre .1), enough r .enough),
+    )
 
 same-length : tie.Need-same-length
 same-length c = search needs

@@ -1,4 +1,5 @@
--- `prepare::filling::fill_one_sized` meets its contract: what `check_room` answers of the size is 8, and where it is ready the key is written.
+-- `prepare::filling::fill_one_sized` meets its contract: what `check_room` answers of the size is 8, and where it is ready
+-- the key is written.
 -- Assumes nothing.
 use mathlib.Core.Path.{_≡_, sym, ap, _∙_}
 use mathlib.Core.Option.{none}

@@ -1,5 +1,5 @@
--- `prepare::filling::fill_two` meets its contract: where both buffers are roomy 8 does not apply, and both keys are filled in; else
--- they are sized first.
+-- `prepare::filling::fill_two` meets its contract: where both buffers are roomy 8 does not apply, and both keys are filled
+-- in; else they are sized first.
 -- Assumes nothing.
 use mathlib.Core.Path.{_≡_, sym, _∙_}
 use mathlib.Core.Option.{none}

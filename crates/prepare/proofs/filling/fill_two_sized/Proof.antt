@@ -1,5 +1,5 @@
--- `prepare::filling::fill_two_sized` meets its contract: what `check_room` answers of the two sizes is 8, and where it is ready for both
--- each key is written.
+-- `prepare::filling::fill_two_sized` meets its contract: what `check_room` answers of the two sizes is 8, and where it is
+-- ready for both each key is written.
 -- Assumes nothing.
 use mathlib.Core.Path.{_≡_, sym, ap, _∙_}
 use mathlib.Core.Option.{none}

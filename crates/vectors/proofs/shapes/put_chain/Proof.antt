@@ -9,7 +9,8 @@ use Rattle.vectors.proofs.shapes.put_chain.Statement.{statement}
 use Rattle.vectors.proofs.shapes.put_chain.Tie as tie
 
 abbrev Inv-loop : tie.InvT-loop
-Inv-loop entries₀ pool₀ n parts i₀ start₀ entries pool i start = (i ≤ n) × ((start ≤ 32 * i) × ((length entries ≡ length entries₀) × (length pool ≡ length pool₀)))
+Inv-loop entries₀ pool₀ n parts i₀ start₀ entries pool i start =
+    (i ≤ n) × ((start ≤ 32 * i) × ((length entries ≡ length entries₀) × (length pool ≡ length pool₀)))
 
 abbrev μ-loop : tie.MeasureT-loop
 μ-loop entries₀ pool₀ n parts i₀ start₀ entries pool i start = n - i
