@@ -27,8 +27,6 @@ check: ## with CRATE=name: prove that crate and those that it needs
 	@rt check "$$CRATE"
 
 test: ## prove every crate, try every must-fail edit, run every program and test; ends with `N passed, 0 failed`
-	@[ -f "$${MZ_UNICODE_DATA:-/usr/share/unicode/UnicodeData.txt}" ] || echo 'UnicodeData.txt is missing:' \
-	    'the package unicode-data will be installed (stop here and name the file with MZ_UNICODE_DATA, and nothing is installed)'
 	@bash tests/run.sh
 
 bench: lib ## names and the search beside other programs, in one run

@@ -1,9 +1,10 @@
 #!/usr/bin/env bash
-# Fuzzes the C interface (tests/fuzz): runs the stored inputs, then for MZ_FUZZ_SECONDS seconds (10 without it) what libFuzzer makes of
-# them. Before that, sees the target fail: the stored inputs must find each wrong library of tests/fuzz/wrong.
+# Fuzzes the C interface (tests/fuzz): runs the stored inputs, then for MZ_FUZZ_SECONDS seconds (10 without it) what libFuzzer
+# makes of them. Before that, sees the target fail: the stored inputs must find each wrong library of tests/fuzz/wrong.
 #
-# Needs build/lib/libmundeziwa.a, which `make lib` leaves (MUNDEZIWA_LIB_DIR names another directory), objcopy, and clang with its runtime.
-# A fault is a failure, and the input that brought it is left in build/fuzz. The stored inputs aren't changed: the fuzzer works on a copy.
+# Needs build/lib/libmundeziwa.a, which `make lib` leaves (MUNDEZIWA_LIB_DIR names another directory), objcopy, and clang with
+# its runtime. A fault is a failure, and the input that brought it is left in build/fuzz. The stored inputs aren't changed: the
+# fuzzer works on a copy.
 set -euo pipefail
 cd "$(dirname "$0")/.."
 # shellcheck source=tests/packages.sh
@@ -16,24 +17,20 @@ readonly COMPILE=(clang -std=c11 -g -O1 -Wall -Wextra -Werror -pedantic -Iinclud
 readonly SANITIZE=-fsanitize=fuzzer,address
 # The library allocates nothing, and the search for leaks needs rights that a container may not give.
 readonly OPTIONS=(-detect_leaks=0 -seed=20071001 -max_len=200 -timeout=60 "-artifact_prefix=$OUT/")
-readonly WRONG=(READS_AFTER_TEXT READS_BEFORE_TEXT READS_AFTER_POOL READS_AFTER_KEY WRITES_ON_REFUSAL ANSWERS_ON_REFUSAL PREFIX_IS_EQUAL)
+readonly WRONG=(READS_AFTER_TEXT READS_BEFORE_TEXT READS_AFTER_POOL READS_AFTER_KEY
+    WRITES_ON_REFUSAL ANSWERS_ON_REFUSAL PREFIX_IS_EQUAL)
 
 fail() {
     echo "fuzz: $*" >&2
     exit 1
 }
 
-# Whether clang is here with the runtime that a fuzzer is linked with.
-can_build() {
-    printf 'int LLVMFuzzerTestOneInput(const char *data, unsigned long size) { return data == 0 && size == 0; }' \
-        | clang "$SANITIZE" -x c -o "$OUT/probe" - 2> "$OUT/probe.log"
-}
-
 # run WHAT ARGUMENT..: runs the fuzzer, and says how many runs there were.
 run() {
     local what=$1 runs
     shift
-    "$OUT/calls" "${OPTIONS[@]}" "$@" > "$OUT/calls.log" 2>&1 || { tail -n 40 "$OUT/calls.log" >&2; fail "a fault, found by $what"; }
+    "$OUT/calls" "${OPTIONS[@]}" "$@" > "$OUT/calls.log" 2>&1 \
+        || { tail -n 40 "$OUT/calls.log" >&2; fail "a fault, found by $what"; }
     runs=$(sed -n 's/^Done \([0-9]*\) runs .*/\1/p' "$OUT/calls.log")
     [ "${runs:-0}" -gt 0 ] || fail "nothing was run by $what"
     echo "fuzz: $runs runs, $what"
@@ -44,15 +41,15 @@ must_find() {
     "${COMPILE[@]}" "-DWRONG=$1" -c -o "$OUT/order.o" tests/fuzz/wrong/order.c || fail "$1 doesn't build"
     clang "$SANITIZE" -o "$OUT/wrong" "${objects[@]}" "$OUT/order.o" "$OUT/renamed.a" || fail "$1 doesn't link"
     ! "$OUT/wrong" "${OPTIONS[@]}" -runs=0 "$OUT/corpus" > "$OUT/wrong.log" 2>&1 || fail "$1 is not found"
-    grep -Eq "doesn't hold|AddressSanitizer: SEGV" "$OUT/wrong.log" || { cat "$OUT/wrong.log" >&2; fail "$1 stops in another way"; }
+    grep -Eq "doesn't hold|AddressSanitizer: SEGV" "$OUT/wrong.log" \
+        || { cat "$OUT/wrong.log" >&2; fail "$1 stops in another way"; }
 }
 
 [[ $FOR =~ ^[1-9][0-9]*$ ]] || fail "MZ_FUZZ_SECONDS is no number above 0: $FOR"
 [ -f "$LIB" ] || fail "no $LIB"
 rm -rf "$OUT"
 mkdir -p "$OUT"
-can_build || need_packages 'clang, or its runtime for libFuzzer,' clang libclang-rt-14-dev || fail "no clang"
-can_build || { cat "$OUT/probe.log" >&2; fail "clang can't build a fuzzer"; }
+need_fuzzer || fail "clang can't build a fuzzer"
 
 objects=()
 for source in tests/fuzz/*.c; do

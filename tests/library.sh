@@ -39,7 +39,8 @@ readelf -d build/c_calls_shared | grep -qF "[libmundeziwa.so.$interface]" || fai
 
 # the header's collations, limits and refusals are those of crates/terms (9 is the program's alone)
 header=$(awk '$1 == "#define" && NF > 2 { sub("MZ_", "", $2); print $2, $3 }' include/mundeziwa.h | sort)
-terms=$(awk '$1 == "pub" && $2 == "const" { print $3, $6 }' crates/terms/src/lib.rt | tr -d ':;' | grep -v '^REFUSED_NO_TAB ' | sort)
+terms=$(awk '$1 == "pub" && $2 == "const" { print $3, $6 }' crates/terms/src/lib.rt | tr -d ':;' \
+    | grep -v '^REFUSED_NO_TAB ' | sort)
 same 'the header and crates/terms have different numbers' '' \
     "$(comm -23 <(grep -Ev '^(INTERFACE|ENTRY_WIDTH|KEY_PER_OCTET_MOST) ' <<< "$header") <(echo "$terms"))"
 same 'the header and crates/terms have different refusals' "$(grep '^REFUSED_' <<< "$header")" "$(grep '^REFUSED_' <<< "$terms")"

@@ -1,10 +1,11 @@
 #!/usr/bin/env bash
-# Sees the comparison fail: each edit of tests/mistakes plants one mistake in a copy of the second program, and each must be found.
+# Sees the comparison fail: each edit of tests/mistakes plants one mistake in a copy of the second program, and each must be
+# found.
 #
-# Needs what tests/second.sh needs; the comparison is run with fewer cases (MZ_SHORT, MZ_CASES). Prints `NAME found by PART` for each
-# mistake. One that isn't found, doesn't fit the second program, doesn't build, or stops the comparison in another way than by a difference
-# (exit status 1) is a failure. MZ_JOBS is how many are tried at once, each job on a copy and in a build directory of its own. With a
-# name as argument: that mistake alone.
+# Needs what tests/second.sh needs; the comparison is run with fewer cases (MZ_SHORT, MZ_CASES). Prints `NAME found by PART` for
+# each mistake. One that isn't found, doesn't fit the second program, doesn't build, or stops the comparison in another way than
+# by a difference (exit status 1) is a failure. MZ_JOBS is how many are tried at once, each job on a copy and in a build
+# directory of its own. With a name as argument: that mistake alone.
 set -euo pipefail
 cd "$(dirname "$0")/.."
 
@@ -23,8 +24,8 @@ fail() {
     exit 1
 }
 
-# Copies what the comparison is built of. Cargo goes by the files' times: those of the second program are new each time, so that what one
-# mistake left is never taken for the next, and the others keep theirs.
+# Copies what the comparison is built of. Cargo goes by the files' times: those of the second program are new each time, so that
+# what one mistake left is never taken for the next, and the others keep theirs.
 copy() {
     rm -rf "$COPY"
     mkdir -p "$COPY/tests" "$COPY/bindings/rust/src"

@@ -1,6 +1,9 @@
 # shellcheck shell=bash
-# Debian's packages that a test needs; to be sourced. Nothing is installed without being named, and only where MZ_INSTALL=yes says so:
-# tests/run.sh sets it unless it is set already.
+# Debian's packages that a test needs; to be sourced. Nothing is installed without being named, and only where MZ_INSTALL=yes
+# says so: tests/run.sh sets it unless it is set already.
+
+# where Debian's package puts the published file, unless another place is named
+export MZ_UNICODE_DATA="${MZ_UNICODE_DATA:-/usr/share/unicode/UnicodeData.txt}"
 
 # need_packages WHAT PACKAGE..: WHAT is missing, and these packages have it.
 need_packages() {
@@ -13,4 +16,23 @@ need_packages() {
     fi
     echo "installing $*"
     apt-get install -y "$@" || { apt-get update && apt-get install -y "$@"; }
+}
+
+# The published UnicodeData.txt is there.
+need_unicode_data() {
+    [ -f "$MZ_UNICODE_DATA" ] || need_packages "$MZ_UNICODE_DATA" unicode-data && [ -f "$MZ_UNICODE_DATA" ]
+}
+
+# Whether clang is here with the runtime that a fuzzer is linked with; what it says otherwise is left in build/fuzzer.log.
+can_build_fuzzer() {
+    mkdir -p build
+    printf 'int LLVMFuzzerTestOneInput(const char *data, unsigned long size) { return data == 0 && size == 0; }' \
+        | clang -fsanitize=fuzzer,address -x c -o build/fuzzer - 2> build/fuzzer.log
+}
+
+# A fuzzer can be built.
+need_fuzzer() {
+    can_build_fuzzer && return
+    need_packages 'clang, or its runtime for libFuzzer,' clang libclang-rt-14-dev || return 1
+    can_build_fuzzer || { cat build/fuzzer.log >&2; return 1; }
 }

@@ -1,5 +1,6 @@
 #!/usr/bin/env bash
-# The program `pairs` as its user meets it: tests/pairs.py runs target/bin/pairs, which `rt ci` and `make pairs` leave, on a table of cases.
+# The program `pairs` as its user meets it: tests/pairs.py runs target/bin/pairs, which `rt ci` and `make pairs` leave, on a
+# table of cases.
 set -euo pipefail
 cd "$(dirname "$0")/.."
 

@@ -1,6 +1,6 @@
 #!/usr/bin/env bash
 # crates/published/src/lib.rt is what crates/published/rows.py prints for the published UnicodeData.txt, edition 15.0.0.
-# MZ_UNICODE_DATA names another place of the file; tests/second.sh installs it.
+# MZ_UNICODE_DATA names another place of the file; tests/run.sh installs it.
 set -euo pipefail
 cd "$(dirname "$0")/.."
 

@@ -3,12 +3,18 @@
 # The last line of `rt ci` is held back and printed last, only if everything passed.
 set -u
 cd "$(dirname "$0")/.." || exit 1
-export MZ_INSTALL="${MZ_INSTALL:-yes}" # what a test misses of Debian's packages is named and installed; MZ_INSTALL=no forbids it
+export MZ_INSTALL="${MZ_INSTALL:-yes}" # MZ_INSTALL=no: nothing is installed
 failed=0
 fail() {
     printf 'FAILED: %s\n' "$1" >&2
     failed=1
 }
+
+# What a test misses of Debian's packages is named and installed before anything else.
+# shellcheck source=tests/packages.sh
+. tests/packages.sh
+need_unicode_data || fail 'no UnicodeData.txt'
+need_fuzzer || fail 'no clang that can build a fuzzer'
 
 verdict=$(mktemp)
 trap 'rm -f "$verdict"' EXIT

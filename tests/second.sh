@@ -1,16 +1,16 @@
 #!/usr/bin/env bash
 # The comparison of the proved library with the second program, from the repository root: tests/second.sh
 #
-# Needs build/lib/libmundeziwa.a, which `make lib` leaves (MUNDEZIWA_LIB_DIR names another directory), cargo, Python 3 and the published
-# UnicodeData.txt (MZ_UNICODE_DATA names another place; Debian's package unicode-data has it). UTF8_TEST may name Markus Kuhn's
-# UTF-8-test.txt, whose lines are then compared too. MZ_SEED and MZ_CASES set the random part. Whatever is missing is a failure.
+# Needs build/lib/libmundeziwa.a, which `make lib` leaves (MUNDEZIWA_LIB_DIR names another directory), cargo, Python 3 and the
+# published UnicodeData.txt (MZ_UNICODE_DATA names another place; Debian's package unicode-data has it). UTF8_TEST may name
+# Markus Kuhn's UTF-8-test.txt, whose lines are then compared too. MZ_SEED and MZ_CASES set the random part. Whatever is missing
+# is a failure.
 set -euo pipefail
 cd "$(dirname "$0")/.."
 # shellcheck source=tests/packages.sh
 . tests/packages.sh
 
 readonly EDITION=806e9aed65037197f1ec85e12be6e8cd870fc5608b4de0fffd990f689f376a73
-export MZ_UNICODE_DATA="${MZ_UNICODE_DATA:-/usr/share/unicode/UnicodeData.txt}"
 MUNDEZIWA_LIB_DIR="$(realpath -m "${MUNDEZIWA_LIB_DIR:-build/lib}")"
 export MUNDEZIWA_LIB_DIR
 export CARGO_TARGET_DIR="$PWD/build/second"
@@ -25,18 +25,11 @@ need() {
     command -v "$1" > /dev/null || fail "$1 is missing"
 }
 
-# The published file comes with a package.
-fetch_unicode_data() {
-    [ -f "$MZ_UNICODE_DATA" ] && return
-    need_packages "$MZ_UNICODE_DATA" unicode-data || fail "no UnicodeData.txt"
-    [ -f "$MZ_UNICODE_DATA" ] || fail "$MZ_UNICODE_DATA is still missing"
-}
-
 need cargo
 need python3
 need sha256sum
 [ -f "$MUNDEZIWA_LIB_DIR/libmundeziwa.a" ] || fail "no libmundeziwa.a in $MUNDEZIWA_LIB_DIR"
-fetch_unicode_data
+need_unicode_data || fail "no UnicodeData.txt"
 echo "$EDITION  $MZ_UNICODE_DATA" | sha256sum --check --quiet - || fail "$MZ_UNICODE_DATA isn't edition 15.0.0"
 mkdir -p build
 cargo build --quiet --release --offline --manifest-path tests/compare/Cargo.toml || fail "the comparison doesn't build"

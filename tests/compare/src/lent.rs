@@ -1,6 +1,6 @@
-//! Memory lent to the library. Every slice is lent in two copies, and every call made on both: one copy begins straight after pages
-//! that can't be touched, the other ends straight before such pages, so that a read or a write beyond either end is found (see `pages`).
-//! On its open side each copy has guard elements that must stay.
+//! Memory lent to the library. Every slice is lent in two copies, and every call made on both: one copy begins straight after
+//! pages that can't be touched, the other ends straight before such pages, so that a read or a write beyond either end is found
+//! (see `pages`). On its open side each copy has guard elements that must stay.
 
 use crate::pages::Pages;
 use std::slice::{from_raw_parts, from_raw_parts_mut};
@@ -76,7 +76,8 @@ impl<T: Copy + PartialEq> Lent<T> {
         unsafe { from_raw_parts(self.place(side), self.length) }
     }
 
-    /// The first element of a copy. The pages have room for it and its guards; they begin and end at multiples of every alignment.
+    /// The first element of a copy. The pages have room for it and its guards; they begin and end at multiples of every
+    /// alignment.
     fn place(&self, side: Side) -> *mut T {
         match side {
             Side::Start => self.at_start.start().cast(),

@@ -1,8 +1,8 @@
 //! Runs the proved library and the second program on the same inputs.
 //!
-//! One line for each part with its number of cases. Exit status 1 and the first difference on standard output: both answers, and the
-//! inputs in hex. Exit status 2 and a message on standard error if the comparison can't be made: a file or a setting is at fault, or a
-//! part would run no case. A read or write outside a lent slice ends the process by SIGSEGV (see `pages`).
+//! One line for each part with its number of cases. Exit status 1 and the first difference on standard output: both answers,
+//! and the inputs in hex. Exit status 2 and a message on standard error if the comparison can't be made: a file or a setting is
+//! at fault, or a part would run no case. A read or write outside a lent slice ends the process by SIGSEGV (see `pages`).
 //!
 //! Variables: MZ_SEED and MZ_CASES (the random part), MZ_UNICODE_DATA and MZ_NFKD (files of part 2), UTF8_TEST (the published
 //! stress test, if it is at hand), MZ_SHORT=yes (part 2 without the scalar code points and NFKD, fewer cases in 3 and 4),

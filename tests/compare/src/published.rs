@@ -116,8 +116,8 @@ fn in_long_texts(table: &Table) -> Result<(), String> {
     Ok(())
 }
 
-/// The key of every code point that tests/second/nfkd.py has written: a line each, its number and its octets, and last how many there
-/// were.
+/// The key of every code point that tests/second/nfkd.py has written: a line each, its number and its octets, and last how many
+/// there were.
 fn read_nfkd(settings: &Settings) -> Result<Vec<(char, Vec<u8>)>, Stop> {
     let fault = |what: String| Stop::Error(format!("the NFKD file {:?}, which tests/second.sh makes, {what}", settings.nfkd));
     let octets = std::fs::read(&settings.nfkd).map_err(|error| fault(format!("can't be read: {error}")))?;

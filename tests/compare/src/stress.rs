@@ -39,8 +39,8 @@ fn is_valid(table: &Table, text: &[u8]) -> Result<bool, String> {
     Ok(valid)
 }
 
-/// Every sequence of the data file, which has its number, its verdict and its octets: alone, and in a line as the published file has it,
-/// between quotation marks and with plain octets around them.
+/// Every sequence of the data file, which has its number, its verdict and its octets: alone, and in a line as the published
+/// file has it, between quotation marks and with plain octets around them.
 fn listed(table: &Table) -> Result<u64, Stop> {
     let mut cases = 0;
     for line in SEQUENCES.lines().filter(|line| !line.is_empty() && !line.starts_with('#')) {
