@@ -1,29 +1,30 @@
 /* Mundeziwa: names compared under the collations of RFC 4790 and RFC 5051, every function proved.
  *
- * Each call of this header takes any octets, any two slices as a table and buffers of any lengths, and ends with an answer. Their twins
- * without the check of the table, for callers that keep one table for many texts, are in mundeziwa_accepted.h.
+ * Each call of this header takes any octets, any two slices as a table and buffers of any lengths, and ends with an answer.
+ * Their twins without the check of the table, for callers that keep one table for many texts, are in mundeziwa_accepted.h.
  *
  * The library keeps nothing, allocates nothing and calls nothing but memcpy and memset: no locale, no errno, no global state. Any
  * number of threads may call it at once. All memory is the caller's, lent for the call alone.
  *
  * SLICES. A slice is a pointer and the number of its ELEMENTS (octets of a text, 32-bit numbers of a table). A pointer may be
- * anything that is aligned and not NULL where the number is 0. Slices that are written (keys; entries and pool of mz_add_line; the
- * answer) must overlap no other argument; those that are only read may overlap each other.
+ * anything that is aligned and not NULL where the number is 0. Slices that are written (keys; entries and pool of mz_add_line;
+ * the answer) must overlap no other argument; those that are only read may overlap each other.
  *
  * TABLE. entries holds MZ_ENTRY_WIDTH numbers for each entry: code point, titlecase (the code point itself if none), start of its
  * decomposition in the pool, number of code points there. Entries ascend by code point; a start is the sum of all earlier counts.
- * mz_add_line builds such a table from the lines of UnicodeData.txt; mz_check_table says whether one is accepted. Two empty slices
- * are an accepted table, in which every code point maps to itself.
+ * mz_add_line builds such a table from the lines of UnicodeData.txt; mz_check_table says whether one is accepted. Two empty
+ * slices are an accepted table, in which every code point maps to itself.
  *
- * KEYS. The key of a text stands at the start of the lent key buffer, and the octets after it stay as they were; but a key that is the
- * text itself (i;octet, and an invalid text under i;unicode-casemap) is not copied, and the buffer stays. Over an accepted table a key
- * has at most 128 octets for each character of its text. A buffer of MZ_KEY_PER_OCTET_MOST times the text's length in octets is
- * always long enough, and the call is then quickest.
+ * KEYS. The key of a text stands at the start of the lent key buffer, and the octets after it stay as they were; but a key that
+ * is the text itself (i;octet, and an invalid text under i;unicode-casemap) is not copied, and the buffer stays. Over an
+ * accepted table a key has at most 128 octets for each character of its text. A buffer of MZ_KEY_PER_OCTET_MOST times the
+ * text's length in octets is always long enough, and the call is then quickest.
  *
- * ANSWERS. Each call writes the whole of its answer row. answer[0] is the refusal number, 0 if the call was not refused; answer[1] the
- * place: 1 or 2, which text (a lone text is 1), 0 neither; answer[2] the detail, which the refusals below name. On a refusal no
- * other lent buffer changes, and all later fields of the row are 0 (but see mz_add_line). The checks run in the order of the refusals
- * below, and the first that applies is answered. A text is never refused for its content, and no call fails in any other way.
+ * ANSWERS. Each call writes the whole of its answer row. answer[0] is the refusal number, 0 if the call was not refused;
+ * answer[1] the place: 1 or 2, which text (a lone text is 1), 0 neither; answer[2] the detail, which the refusals below name.
+ * On a refusal no other lent buffer changes, and all later fields of the row are 0 (but see mz_add_line). The checks run in the
+ * order of the refusals below, and the first that applies is answered. A text is never refused for its content, and no call
+ * fails in any other way.
  */
 #ifndef MUNDEZIWA_H
 #define MUNDEZIWA_H
@@ -35,14 +36,14 @@
 extern "C" {
 #endif
 
-/* The interface that this header describes. A later one may give the same names other parameters: a program that loads the library
- * compares this number with mz_interface() before it makes any other call. */
+/* The interface that this header describes. A later one may give the same names other parameters: a program that loads the
+ * library compares this number with mz_interface() before it makes any other call. */
 #define MZ_INTERFACE 1
 
 /* Collations. 1 and 2 do not read the table. */
 #define MZ_OCTET 1           /* i;octet: the text is its key */
 #define MZ_ASCII_CASEMAP 2   /* i;ascii-casemap: octets a to z raised to A to Z */
-#define MZ_UNICODE_CASEMAP 3 /* i;unicode-casemap: the text prepared by RFC 5051 over the table, or itself if it is not valid UTF-8 */
+#define MZ_UNICODE_CASEMAP 3 /* i;unicode-casemap: the text prepared by RFC 5051 over the table, or itself if not valid UTF-8 */
 
 /* Limits. */
 #define MZ_TEXT_MOST 4096         /* octets of a text */
@@ -52,14 +53,14 @@ extern "C" {
 #define MZ_LINE_MOST 512          /* octets of a line of UnicodeData.txt */
 #define MZ_KEY_PER_OCTET_MOST 128 /* octets of a key for each octet of its text */
 
-/* Refusals of a call on texts, in their order; 3 to 7 are those of mz_check_table. The place is which text for 2 and 8, else 0. The
- * detail is for 2 the text's length; for 4, 5 and 7 the lowest such entry, counted from 0 (for 5 the number of entries, if no entry is
- * at fault and the pool is too long); for 6 the lowest such index; for 8 the length needed; else 0. */
+/* Refusals of a call on texts, in their order; 3 to 7 are those of mz_check_table. The place is which text for 2 and 8, else 0.
+ * The detail is for 2 the text's length; for 4, 5 and 7 the lowest such entry, counted from 0 (for 5 the number of entries, if
+ * no entry is at fault and the pool is too long); for 6 the lowest such index; for 8 the length needed; else 0. */
 #define MZ_REFUSED_COLLATION 1   /* the number is no collation's */
 #define MZ_REFUSED_TEXT_LENGTH 2 /* a text is over MZ_TEXT_MOST */
 #define MZ_REFUSED_TABLE_SIZE 3  /* entries not whole or over MZ_ENTRIES_MOST, or a pool over MZ_POOL_MOST */
 #define MZ_REFUSED_CODE_POINT 4  /* a code point or titlecase is no Unicode scalar value, or code points do not ascend */
-#define MZ_REFUSED_ENTRY 5       /* a count over 32, a wrong start, parts past the pool, an entry that says nothing, a pool too long */
+#define MZ_REFUSED_ENTRY 5       /* a count over 32, a wrong start, parts past the pool, saying nothing; a pool too long */
 #define MZ_REFUSED_POOL_NUMBER 6 /* a pool number is no Unicode scalar value */
 #define MZ_REFUSED_LEVEL 7       /* a code point does not unfold within 8 levels into at most 32 code points */
 #define MZ_REFUSED_KEY_ROOM 8    /* a key that belongs in a buffer is longer than it */
@@ -119,8 +120,8 @@ void mz_order(uint32_t collation,
 /* Seeks the first text in the second. Leaves both keys as mz_equal does.
  * answer: number, place, detail; 1 match, 2 no-match, 0 refused; start and end of the lowest occurrence of the first key in the
  * second key; start and end of the smallest run of whole characters of the second text that covers it (of octets, under 1 and 2
- * and where the text is not valid). Ends are one past the last octet; all four are 0 where there is no match, and where the first text
- * is empty (a match). Refusals 1 to 8. */
+ * and where the text is not valid). Ends are one past the last octet; all four are 0 where there is no match, and where the
+ * first text is empty (a match). Refusals 1 to 8. */
 void mz_substring(uint32_t collation,
                   const uint8_t *first, size_t first_length,
                   const uint8_t *second, size_t second_length,
@@ -132,10 +133,10 @@ void mz_substring(uint32_t collation,
 
 /* Adds one line of UnicodeData.txt, without its line end, to a table that is being built. The state is three numbers, all 0 at
  * first: entries used, pool numbers used, and one more than the last code point. The table so far is the first
- * MZ_ENTRY_WIDTH * entries_used numbers of entries and the first pool_used numbers of pool. A line with a mapping appends one entry
- * and its parts; any other line only moves the third number.
- * answer: number, place (0), detail (0); the state afterwards: entries used, pool used, next. ON A REFUSAL THE LAST THREE ARE THE STATE
- * THAT CAME IN, not 0. Refusals 28, then 20 to 27. A built table passes checks 3 to 6; mz_check_table decides 7. */
+ * MZ_ENTRY_WIDTH * entries_used numbers of entries and the first pool_used numbers of pool. A line with a mapping appends one
+ * entry and its parts; any other line only moves the third number.
+ * answer: number, place (0), detail (0); the state afterwards: entries used, pool used, next. ON A REFUSAL THE LAST THREE ARE
+ * THE STATE THAT CAME IN, not 0. Refusals 28, then 20 to 27. A built table passes checks 3 to 6; mz_check_table decides 7. */
 void mz_add_line(uint64_t entries_used, uint64_t pool_used, uint64_t next,
                  const uint8_t *line, size_t line_length,
                  uint32_t *entries, size_t entries_length,

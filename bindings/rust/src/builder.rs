@@ -62,7 +62,8 @@ impl TableBuilder {
     pub fn line(&mut self, line: impl AsRef<[u8]>) -> Result<(), Refusal> {
         let line = line.as_ref();
         let mut answer = [0; 6];
-        // SAFETY: the pointers and lengths are those of live slices; entries, pool and answer are borrowed alone, so they overlap nothing.
+        // SAFETY: the pointers and lengths are those of live slices; entries, pool and answer are borrowed alone, so they
+        // overlap nothing.
         unsafe {
             ffi::mz_add_line(
                 self.entries_used,

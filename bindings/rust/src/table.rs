@@ -175,8 +175,8 @@ impl Table {
     {
         let text = text.as_ref();
         let mut answer = [0; 7];
-        // SAFETY: the table was accepted, and nobody can have changed it since; the buffer overlaps no other argument, since it is
-        // borrowed alone.
+        // SAFETY: the table was accepted, and nobody can have changed it since; the buffer overlaps no other argument, since it
+        // is borrowed alone.
         unsafe {
             ffi::mz_prepare_accepted(
                 collation as u32,
