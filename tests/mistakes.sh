@@ -4,8 +4,8 @@
 #
 # Needs what tests/second.sh needs; the comparison is run with fewer cases (MZ_SHORT, MZ_CASES). Prints `NAME found by PART` for
 # each mistake. One that isn't found, doesn't fit the second program, doesn't build, or stops the comparison in another way than
-# by a difference (exit status 1) is a failure. MZ_JOBS is how many are tried at once, each job on a copy and in a build
-# directory of its own. With a name as argument: that mistake alone.
+# by a difference (exit status 1) is a failure. Each part must find one by itself. MZ_JOBS is how many are tried at once, each
+# job on a copy and in a build directory of its own. With a name as argument: that mistake alone.
 set -euo pipefail
 cd "$(dirname "$0")/.."
 
@@ -90,3 +90,13 @@ done
 printf '%s\n' "${names[@]}" | xargs -n 1 -P "${MZ_JOBS:-2}" --process-slot-var=JOB bash tests/mistakes.sh \
     || fail "not all of ${#names[@]} were found"
 echo "${#names[@]} mistakes, all found"
+
+# Part 1 comes first and finds them; each of the others finds one by itself too, so that none only seems to look.
+while read -r part name; do
+    MZ_PARTS=$part bash tests/mistakes.sh "$name" || fail "part $part doesn't find $name by itself"
+done << 'END'
+2 mistake_titlecase_0_if_none
+3 mistake_overlong_accepted
+4 mistake_last_occurrence
+5 mistake_marks_sorted
+END

@@ -165,14 +165,17 @@ module _ (t : Table) where
   number-6 i =
       Iff·trans (table-row 6 i) (number-exactly (fault3 t ∷ fault4 t ∷ fault5 t ∷ []) (fault6 t) (fault7 t ∷ []) refl refl i)
 
+  -- the form that demand 3 names: none of 3 to 6 applies
+  pub form-exactly : (formRefusal t ≡ none) ↔ Clear (formFaults t)
+  unfolding formRefusal
+  form-exactly = row-clear (formChecks t) (formFaults t) (form-renders t)
+
   -- 7 exactly when the form holds, entry i does not unfold well and every lower one does
   pub number-7 : (i : ℕ) → (tableRefusal t ≡ some (refusal 7 0 i)) ↔ ((formRefusal t ≡ none) × LowestUnsound t i)
-  unfolding formRefusal
   number-7 i =
-      let row = Iff·trans (table-row 7 i) (number-exactly (formFaults t) (fault7 t) [] refl refl i) in
-      let form = row-clear (formChecks t) (formFaults t) (form-renders t) in (
-        λ e. (form .1 (row .0 e .0), row .0 e .1),
-        λ h. row .1 (form .0 (h .0), h .1),
+      let row = Iff·trans (table-row 7 i) (number-exactly (formFaults t) (fault7 t) [] refl refl i) in (
+        λ e. (form-exactly .1 (row .0 e .0), row .0 e .1),
+        λ h. row .1 (form-exactly .0 (h .0), h .1),
       )
 
 -- "A code point in a cycle .. has no level": one that leads to itself by decomposing
