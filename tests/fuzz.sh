@@ -19,6 +19,12 @@ readonly SANITIZE=-fsanitize=fuzzer,address
 readonly OPTIONS=(-detect_leaks=0 -seed=20071001 -max_len=200 -timeout=60 "-artifact_prefix=$OUT/")
 readonly WRONG=(READS_AFTER_TEXT READS_BEFORE_TEXT READS_AFTER_POOL READS_AFTER_KEY
     WRITES_ON_REFUSAL ANSWERS_ON_REFUSAL PREFIX_IS_EQUAL)
+# The sanitizer finds no place for its memory under some kernels' randomised addresses; without them it always does.
+STEADY=()
+if setarch --addr-no-randomize true 2> /dev/null; then
+    STEADY=(setarch --addr-no-randomize)
+fi
+readonly STEADY
 
 fail() {
     echo "fuzz: $*" >&2
@@ -29,7 +35,7 @@ fail() {
 run() {
     local what=$1 runs
     shift
-    "$OUT/calls" "${OPTIONS[@]}" "$@" > "$OUT/calls.log" 2>&1 \
+    "${STEADY[@]}" "$OUT/calls" "${OPTIONS[@]}" "$@" > "$OUT/calls.log" 2>&1 \
         || { tail -n 40 "$OUT/calls.log" >&2; fail "a fault, found by $what"; }
     runs=$(sed -n 's/^Done \([0-9]*\) runs .*/\1/p' "$OUT/calls.log")
     [ "${runs:-0}" -gt 0 ] || fail "nothing was run by $what"
@@ -40,7 +46,7 @@ run() {
 must_find() {
     "${COMPILE[@]}" "-DWRONG=$1" -c -o "$OUT/order.o" tests/fuzz/wrong/order.c || fail "$1 doesn't build"
     clang "$SANITIZE" -o "$OUT/wrong" "${objects[@]}" "$OUT/order.o" "$OUT/renamed.a" || fail "$1 doesn't link"
-    ! "$OUT/wrong" "${OPTIONS[@]}" -runs=0 "$OUT/corpus" > "$OUT/wrong.log" 2>&1 || fail "$1 is not found"
+    ! "${STEADY[@]}" "$OUT/wrong" "${OPTIONS[@]}" -runs=0 "$OUT/corpus" > "$OUT/wrong.log" 2>&1 || fail "$1 is not found"
     grep -Eq "doesn't hold|AddressSanitizer: SEGV" "$OUT/wrong.log" \
         || { cat "$OUT/wrong.log" >&2; fail "$1 stops in another way"; }
 }
