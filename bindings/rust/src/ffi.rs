@@ -1,8 +1,8 @@
-//! The calls of include/mundeziwa.h and include/mundeziwa_accepted.h. A slice is a pointer and the number of its elements; an answer is a
-//! row of so many numbers.
+//! The calls of include/mundeziwa.h and include/mundeziwa_accepted.h. A slice is a pointer and the number of its elements; an
+//! answer is a row of so many numbers.
 //!
-//! The comparison with the second program (tests/compare) takes its declarations from this file, and makes the calls that this crate
-//! has no use for.
+//! The comparison with the second program (tests/compare) takes its declarations from this file, and makes the calls that this
+//! crate has no use for.
 #![allow(dead_code)]
 
 /// MZ_INTERFACE of the header that these declarations render.

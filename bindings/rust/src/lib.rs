@@ -1,13 +1,44 @@
 //! Names compared under the collations of RFC 4790 and RFC 5051: `i;octet`, `i;ascii-casemap` and `i;unicode-casemap`.
 //!
 //! The work is done by a library whose every function is proved to meet its contract; this crate checks a mapping table once,
-//! keeps it where nobody can change it, and calls that library. Nothing here panics on any input, and nothing is `unsafe` to call. (A
-//! library of another interface than this crate was written for, linked by mistake, stops the program at the first table or builder,
-//! with both numbers.) What is linked is build/lib/libmundeziwa.a, which `make lib` leaves in the repository; MUNDEZIWA_LIB_DIR names
-//! another folder.
+//! keeps it where nobody can change it, and calls that library. Nothing here panics on any input, and nothing is `unsafe` to
+//! call. (A library of another interface than this crate was written for, linked by mistake, stops the program at the first
+//! table or builder, with both numbers.) What is linked is build/lib/libmundeziwa.a, which `make lib` leaves in the repository;
+//! MUNDEZIWA_LIB_DIR names another folder.
 //!
-//! Each text has a **key**, and texts are compared by their keys alone. Texts and lines are anything that is octets: `&str`, `String`,
-//! `&[u8]`, `Vec<u8>`. The numbers of refusals are those of document 01, which is docs/SCOPE.md of the repository.
+//! Each text has a **key**, a string of octets, and texts are compared by their keys alone: records that are filed under the
+//! keys of their names are joined by name. Texts and lines are anything that is octets: `&str`, `String`, `&[u8]`, `Vec<u8>`.
+//!
+//! Under `i;unicode-casemap` a character is replaced by its titlecase and then unfolded: replaced by its decomposition, and
+//! each part again by its own, until nothing decomposes. Both stand in a [`Table`], built from lines of UnicodeData.txt: an
+//! *entry* for each code point with a titlecase or a decomposition, and the decompositions one after another in its *pool*.
+//! Each time it is asked for one is a *lookup*. A letter without an entry stays as it is, and nothing warns of it: for names of
+//! any origin take the whole published file. A text that is not valid UTF-8 is its own key. [`RefusalKind`] has what is
+//! refused; docs/SCOPE.md of the repository, "document 01", has every rule.
+//!
+//! A join:
+//!
+//! ```
+//! use mundeziwa::{Collation, Refusal, TableBuilder};
+//! use std::collections::HashMap;
+//!
+//! let lines = "0065;LATIN SMALL LETTER E;Ll;0;L;;;;;N;;;0045;;0045\n\
+//!     00C9;LATIN CAPITAL LETTER E WITH ACUTE;Lu;0;L;0045 0301;;;;N;;;;00E9;\n\
+//!     00E9;LATIN SMALL LETTER E WITH ACUTE;Ll;0;L;0065 0301;;;;N;;;00C9;;00C9\n";
+//! let table = TableBuilder::read(lines.as_bytes())?.table()?;
+//! let key = |name: &&str| table.key(Collation::UnicodeCasemap, name);
+//!
+//! let mut fitted = HashMap::new();
+//! for name in ["\u{c9}", "E"] {
+//!     fitted.insert(key(&name)?, name);
+//! }
+//! let held_back = ["e\u{301}", "F"];
+//! let shared: Vec<_> = held_back.iter().filter(|name| key(name).is_ok_and(|key| fitted.contains_key(&key))).collect();
+//! assert_eq!(shared, [&"e\u{301}"]);
+//! # Ok::<(), mundeziwa::ReadError>(())
+//! ```
+//!
+//! Comparing:
 //!
 //! ```
 //! use mundeziwa::{Collation, TableBuilder};

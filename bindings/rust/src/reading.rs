@@ -6,8 +6,8 @@ use std::io::{self, BufRead, Read};
 /// The most octets of a line.
 const LINE_MOST: usize = 512;
 
-/// The code point of the last line of UnicodeData.txt, the end of the last plane's private use. No edition can have a line after it:
-/// the two code points above are noncharacters.
+/// The code point of the last line of UnicodeData.txt, the end of the last plane's private use. No edition can have a line
+/// after it: the two code points above are noncharacters.
 const LAST_OF_FILE: u32 = 0x10FFFD;
 
 /// Why lines could not be read into a table. Both `{}` and `{:?}` print the sentence.
@@ -24,14 +24,16 @@ pub enum ReadError {
     Io(io::Error),
     /// A line was refused; lines are counted from 1.
     Line(u64, Refusal),
+    /// The lines were read, and the table that they build is refused.
+    Table(Refusal),
     /// The file is not the whole UnicodeData.txt; with the code point of its last whole line, if it has one.
     NotWhole(Option<u32>),
 }
 
 impl TableBuilder {
-    /// Reads every line of a file of your own making, such as the lines for some scripts. A line ends at a line feed, which alone is
-    /// cut off; a last line without one counts. Whoever reads the published file takes [`TableBuilder::read_whole`]: a file that was cut
-    /// off between two lines, or in a line's last field, looks to this call like a shorter one.
+    /// Reads every line of a file of your own making, such as the lines for some scripts. A line ends at a line feed, which
+    /// alone is cut off; a last line without one counts. Whoever reads the published file takes [`TableBuilder::read_whole`]: a
+    /// file that was cut off between two lines, or in a line's last field, looks to this call like a shorter one.
     ///
     /// ```
     /// use mundeziwa::TableBuilder;
@@ -49,9 +51,9 @@ impl TableBuilder {
         Ok(builder)
     }
 
-    /// Reads the whole published UnicodeData.txt, and takes no file that was cut off: the last line must be that of U+10FFFD, after
-    /// which no edition can have one, and have its line feed. So whatever is missing at the end, if only an octet, is noticed. What is
-    /// missing or altered in the middle is not; a checksum is for that.
+    /// Reads the whole published UnicodeData.txt, and takes no file that was cut off: the last line must be that of U+10FFFD,
+    /// after which no edition can have one, and have its line feed. So whatever is missing at the end, if only an octet, is
+    /// noticed. What is missing or altered in the middle is not; a checksum is for that.
     ///
     /// ```
     /// use mundeziwa::{ReadError, TableBuilder};
@@ -124,6 +126,7 @@ impl fmt::Display for ReadError {
         match self {
             ReadError::Io(error) => write!(f, "reading failed: {error}"),
             ReadError::Line(number, refusal) => write!(f, "line {number}: {refusal}"),
+            ReadError::Table(refusal) => write!(f, "the table that the lines build: {refusal}"),
             ReadError::NotWhole(last) => {
                 match last {
                     Some(last) => write!(f, "not the whole file: its last whole line is that of {:?}", Named(*last))?,
@@ -141,11 +144,35 @@ impl fmt::Debug for ReadError {
     }
 }
 
+/// Opening a file fails as reading it does.
+impl From<io::Error> for ReadError {
+    fn from(error: io::Error) -> ReadError {
+        ReadError::Io(error)
+    }
+}
+
+/// What [`TableBuilder::table`] answers, so that one function may read and check.
+///
+/// ```no_run
+/// use mundeziwa::{ReadError, Table, TableBuilder};
+/// use std::{fs::File, io::BufReader};
+///
+/// fn load(path: &str) -> Result<Table, ReadError> {
+///     Ok(TableBuilder::read_whole(BufReader::new(File::open(path)?))?.table()?)
+/// }
+/// # load("UnicodeData.txt").ok();
+/// ```
+impl From<Refusal> for ReadError {
+    fn from(refusal: Refusal) -> ReadError {
+        ReadError::Table(refusal)
+    }
+}
+
 impl std::error::Error for ReadError {
     fn source(&self) -> Option<&(dyn std::error::Error + 'static)> {
         match self {
             ReadError::Io(error) => Some(error),
-            ReadError::Line(_, refusal) => Some(refusal),
+            ReadError::Line(_, refusal) | ReadError::Table(refusal) => Some(refusal),
             ReadError::NotWhole(_) => None,
         }
     }

@@ -20,6 +20,7 @@ pub struct Refusal {
     kind: RefusalKind,
     place: u64,
     detail: u64,
+    lone: bool,
 }
 
 impl Refusal {
@@ -27,8 +28,13 @@ impl Refusal {
     pub(crate) fn of(row: &[u64]) -> Result<(), Refusal> {
         match row[0] {
             0 => Ok(()),
-            number => Err(Refusal { kind: number.into(), place: row[1], detail: row[2] }),
+            number => Err(Refusal { kind: number.into(), place: row[1], detail: row[2], lone: false }),
         }
+    }
+
+    /// The same of a call on one text, of which a sentence doesn't say that it is the first.
+    pub(crate) fn of_lone_text(row: &[u64]) -> Result<(), Refusal> {
+        Refusal::of(row).map_err(|refusal| Refusal { lone: true, ..refusal })
     }
 
     /// What was wrong.
@@ -89,11 +95,16 @@ impl Refusal {
 
     fn text(&self) -> &'static str {
         match self.place {
+            _ if self.lone => "the text",
             2 => "the second text",
             _ => "the first text",
         }
     }
 }
+
+/// What a field that should write a code point does not.
+const CODE_POINT: &str =
+    "is no code point of 4 to 6 digits 0-9 and A-F, at most 10FFFF, with no zero in front beyond four digits";
 
 impl fmt::Display for Refusal {
     fn fmt(&self, f: &mut fmt::Formatter<'_>) -> fmt::Result {
@@ -102,23 +113,23 @@ impl fmt::Display for Refusal {
         let detail = self.detail;
         match self.kind {
             UnknownCollation => write!(f, "the collation is not 1, 2 or 3"),
-            TextTooLong => write!(f, "{} has {detail} octets, and at most 4,096 are taken", self.text()),
-            TableSize => write!(f, "the entries are no multiple of 4 numbers, over 16,384, or the pool has over 65,536 numbers"),
+            TextTooLong => write!(f, "{} has {detail} octets, and at most 4096 are taken", self.text()),
+            TableSize => write!(f, "the entries are not four numbers each, or over 16384, or the pool has over 65536 numbers"),
             CodePoint => {
-                write!(f, "entry {detail} has a code point or titlecase that is not scalar, or is not above the entry before")
+                write!(f, "entry {detail} has a code point or titlecase that is no Unicode scalar value, or is not above the one before")
             }
             Entry => {
                 write!(f, "entry {detail} is faulty or, if there is none with that number, the pool is longer than all counts")
             }
-            PoolNumber => write!(f, "pool number {detail} is not scalar"),
+            PoolNumber => write!(f, "pool number {detail} is no Unicode scalar value: a surrogate, or above 10FFFF"),
             NoLevel => write!(f, "entry {detail} does not unfold within 8 levels into at most 32 code points"),
             KeyRoom => write!(f, "the key of {} needs a buffer of {detail} octets", self.text()),
             NoTab => write!(f, "the line has no tab"),
             LineTooLong => write!(f, "the line has over 512 octets"),
             FieldCount => write!(f, "the line has not exactly 14 semicolons"),
-            Field0 => write!(f, "field 0 is no code point of 4 to 6 digits"),
-            Field5 => write!(f, "field 5 is no decomposition of 1 to 32 code points"),
-            Field14 => write!(f, "field 14 is no code point of 4 to 6 digits"),
+            Field0 => write!(f, "field 0 {CODE_POINT} (a byte order mark at the file's start is part of it)"),
+            Field5 => write!(f, "field 5 is neither empty nor a decomposition of 1 to 32 code points"),
+            Field14 => write!(f, "field 14 is not empty and {CODE_POINT} (a carriage return before the line feed is part of it)"),
             Surrogate => write!(f, "a line with a mapping has a surrogate in field 0, 5 or 14"),
             LineOrder => write!(f, "the code point is not above that of the line before"),
             NoRoom => write!(f, "the table has no room for the entry or its parts"),

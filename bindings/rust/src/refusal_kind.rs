@@ -15,7 +15,11 @@ macro_rules! refusal_kinds {
         #[derive(Clone, Copy, Debug, PartialEq, Eq, Hash)]
         #[non_exhaustive]
         pub enum RefusalKind {
-            $($(#[$meaning])* $kind,)*
+            $(
+                $(#[$meaning])*
+                #[doc = concat!("\n\nRefusal ", $number, ".")]
+                $kind,
+            )*
             /// A number that this crate has no name for.
             Unknown(u64),
         }

@@ -7,11 +7,11 @@ use std::cmp::Ordering;
 use std::fmt;
 use std::ops::Range;
 
-/// A mapping table that was checked and accepted. It owns its two slices, or borrows them for ever, so that nobody can change them: this
-/// is what the calls of include/mundeziwa_accepted.h ask for, and the crate makes them over such a table alone.
+/// A mapping table that was checked and accepted. It owns its two slices, or borrows them for ever, so that nobody can change
+/// them: this is what the calls of include/mundeziwa_accepted.h ask for, and the crate makes them over such a table alone.
 ///
-/// A struct may hold it, and any number of threads may use it at once. The comparing calls keep two key buffers for each thread, which
-/// grow to 128 times the longest text seen (1 MiB at most for both) and are freed with the thread.
+/// A struct may hold it, and any number of threads may use it at once. The comparing calls keep two key buffers for each
+/// thread, which grow to 128 times the longest text seen (1 MiB at most for both) and are freed with the thread.
 ///
 /// ```
 /// use mundeziwa::{Collation, Refusal, Table};
@@ -60,16 +60,16 @@ pub struct Prepared<'k> {
 pub struct Hit {
     /// The lowest occurrence of the first text's key in the second's.
     pub key: Range<usize>,
-    /// The smallest run of whole characters of the second text that covers it; of octets, where that text is compared octet by octet
-    /// (under `i;octet` and `i;ascii-casemap`, and where it is not valid UTF-8).
+    /// The smallest run of whole characters of the second text that covers it; of octets, where that text is compared octet by
+    /// octet (under `i;octet` and `i;ascii-casemap`, and where it is not valid UTF-8).
     pub text: Range<usize>,
 }
 
 impl Table {
     /// Checks a table, and keeps it if it is accepted: four numbers an entry (code point, titlecase, start in the pool, count).
     ///
-    /// It takes vectors, which it then owns, and slices that live as long as the program, which it borrows; other slices are first
-    /// copied with `to_vec`, which costs little beside the check.
+    /// It takes vectors, which it then owns, and slices that live as long as the program, which it borrows; other slices are
+    /// first copied with `to_vec`, which costs little beside the check.
     ///
     /// Refusals 3 to 7.
     ///
@@ -133,7 +133,8 @@ impl Table {
         &self.pool
     }
 
-    /// The key of a text: two texts are equal exactly when their keys are, so records that are filed under it are joined by name.
+    /// The key of a text: two texts are equal exactly when their keys are, so records that are filed under it are joined by
+    /// name. A key depends on the table: keys made over different tables (another edition, other lines) must not be compared.
     ///
     /// Refusal 2.
     ///
@@ -153,8 +154,9 @@ impl Table {
         })
     }
 
-    /// Prepares a text: its key, whether it is valid, and the lookup count. The key is left at the start of the buffer, or is the
-    /// text itself (`i;octet`, and an invalid text). A buffer of [`KEY_PER_OCTET_MOST`](crate::KEY_PER_OCTET_MOST) times the text's length is always enough.
+    /// Prepares a text: its key, whether it is valid, and the lookup count. The key is left at the start of the buffer, or is
+    /// the text itself (`i;octet`, and an invalid text). A buffer of [`KEY_PER_OCTET_MOST`](crate::KEY_PER_OCTET_MOST) times
+    /// the text's length is always enough.
     ///
     /// Refusals 2, and 8 with the length that the key needs.
     ///
@@ -191,7 +193,7 @@ impl Table {
                 &mut answer,
             )
         };
-        Refusal::of(&answer)?;
+        Refusal::of_lone_text(&answer)?;
         let length = answer[5] as usize;
         let key = if answer[6] == 0 { &text[..length] } else { &buffer[..length] };
         Ok(Prepared { key, valid: answer[3] == 1, lookups: answer[4] })
@@ -238,8 +240,8 @@ impl Table {
         })
     }
 
-    /// Where the first text is found in the second, if it is: the lowest occurrence of its key, and the smallest run of whole characters
-    /// that covers it. An empty text is found at 0..0.
+    /// Where the first text is found in the second, if it is: the lowest occurrence of its key, and the smallest run of whole
+    /// characters that covers it. An empty text is found at 0..0.
     ///
     /// Refusal 2.
     ///

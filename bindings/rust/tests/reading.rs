@@ -1,4 +1,5 @@
-//! Lines and files of UnicodeData.txt: what is counted, what is refused, and that no file that was cut off is taken for a whole one.
+//! Lines and files of UnicodeData.txt: what is counted, what is refused, and that no file that was cut off is taken for a whole
+//! one.
 use mundeziwa::{ReadError, RefusalKind, TableBuilder};
 use std::fs;
 use std::io::{self, BufReader, Read};

@@ -17,8 +17,8 @@ const LETTERS: [&[&str]; 10] = [
     &["名"],
 ];
 
-/// What no valid text has in it, whatever stands before and after: an octet that is never used, more trailing octets than a character
-/// has, cut-off, overlong and surrogate forms, and what is above U+10FFFF.
+/// What no valid text has in it, whatever stands before and after: an octet that is never used, more trailing octets than a
+/// character has, cut-off, overlong and surrogate forms, and what is above U+10FFFF.
 const BROKEN: [&[u8]; 9] = [
     &[0xFF],
     &[0x80, 0x80, 0x80, 0x80],
