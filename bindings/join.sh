@@ -1,7 +1,7 @@
 #!/usr/bin/env bash
-# One library out of the archives of the named crates: build/lib/libmundeziwa.a, and libmundeziwa.so.N with its link name libmundeziwa.so,
-# N being MZ_INTERFACE of the header. Each archive of target/staticlib has one object, named as its crate, in which nothing but the
-# exported calls can be seen from outside.
+# One library out of the archives of the named crates: build/lib/libmundeziwa.a, and libmundeziwa.so.N with its link name
+# libmundeziwa.so, N being MZ_INTERFACE of the header. Each archive of target/staticlib has one object, named as its crate, in
+# which nothing but the exported calls can be seen from outside.
 set -euo pipefail
 cd "$(dirname "$0")/.."
 
@@ -11,7 +11,8 @@ interface=$(sed -n 's/^#define MZ_INTERFACE \([0-9][0-9]*\)$/\1/p' include/munde
 
 objects=()
 for crate in "$@"; do
-    [ "$(ar t "target/staticlib/lib$crate.a")" = "$crate.o" ] || { echo "lib$crate.a has other objects than $crate.o" >&2; exit 1; }
+    [ "$(ar t "target/staticlib/lib$crate.a")" = "$crate.o" ] \
+        || { echo "lib$crate.a has other objects than $crate.o" >&2; exit 1; }
     (cd "$OUT" && ar x "../../target/staticlib/lib$crate.a")
     objects+=("$OUT/$crate.o")
 done

@@ -1,8 +1,8 @@
 """The program `pairs` on a table of cases (document 01, "The program `pairs`").
 
-Usage: pairs.py PROGRAM. Each case is a ucd.txt, what comes in, and all that must come out: standard output octet by octet, nothing on
-standard error, and exit status 0, refusals or not (document 01 names no other). Prints how many cases there were, or the first that
-differs.
+Usage: pairs.py PROGRAM. Each case is a ucd.txt, what comes in, and all that must come out: standard output octet by octet,
+nothing on standard error, and exit status 0, refusals or not (document 01 names no other). Prints how many cases there were, or
+the first that differs.
 """
 
 import difflib

@@ -39,13 +39,10 @@ printed=$(CARGO_TARGET_DIR=$OUT/target cargo run --quiet --offline --manifest-pa
     || fail 'the Rust program fails'
 same 'the Rust program prints something else' "$said" "$printed"
 
-if [ -x target/bin/pairs ]; then
-    # README.md adds the names after two spaces
-    said=$(sed -n '/^    collation /,/^    pairs /{s/^    //;s/  .*//;p}' README.md)
-    same 'pairs prints something else' "$said" "$(cd sample && ../target/bin/pairs < storms.txt)"
-else
-    echo 'readme: target/bin/pairs is not there, so what it prints was not compared'
-fi
+[ -x target/bin/pairs ] || fail 'target/bin/pairs is not there: make pairs'
+# README.md adds the names after two spaces
+said=$(sed -n '/^    collation /,/^    pairs /{s/^    //;s/  .*//;p}' README.md)
+same 'pairs prints something else' "$said" "$(cd sample && ../target/bin/pairs < storms.txt)"
 
 commands=$(sed -n 's/^    \(make [a-z]*  *[a-z].*\)/\1/p' README.md)
 same 'README.md and make help have different commands' "$(make -s help)" "$commands"

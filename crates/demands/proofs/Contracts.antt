@@ -1,6 +1,7 @@
--- What the contracts of the public calls say is what the theorems of the demands take. `Learnt` is generated from the
--- `ensures` of a function, and is what a caller learns of the arguments a, the result r and the slices s at exit; so a
--- contract that is weakened is refused here. The values of a slice stand under `now`; κs are the lifetimes.
+-- What the contracts of the public calls say is what the theorems of the demands take, and they ask for nothing. `Learnt` is
+-- generated from the `ensures` of a function, and is what a caller learns of the arguments a, the result r and the slices s at
+-- exit; `Asked` is generated from its `requires`. So a contract that is weakened, or that comes to ask for something, is
+-- refused here. The values of a slice stand under `now`; κs are the lifetimes. ContractsC.antt has the calls of the C interface.
 -- Assumes nothing.
 use mathlib.Core.Path.{_≡_}
 use mathlib.Core.List.{[], _∷_}
@@ -34,6 +35,30 @@ use Rattle.search.proofs.substring_accepted.Reads as substring-accepted
 use Rattle.builder.specs.Builder.{built, Added}
 use Rattle.builder.proofs.add_line.Kinds as add-line-kinds
 use Rattle.builder.proofs.add_line.Reads as add-line
+
+-- ---- "Every call ends with an answer on any octets, any table, any buffer sizes": none has a `requires`
+
+pub check-table-asks-nothing : (κs : Lfts 2) (a : Dens κs check-table-kinds.ps) → check-table.Asked κs a
+check-table-asks-nothing κs a = tt
+
+pub add-line-asks-nothing : (κs : Lfts 3) (a : Dens κs add-line-kinds.ps) → add-line.Asked κs a
+add-line-asks-nothing κs a = tt
+
+pub prepare-asks-nothing : (κs : Lfts 4) (a : Dens κs prepare-kinds.ps) → prepare.Asked κs a
+prepare-asks-nothing κs a = tt
+
+pub shown-key-asks-nothing : (κs : Lfts 1) (a : Dens κs shown-key-kinds.ps) → shown-key.Asked κs a
+shown-key-asks-nothing κs a = tt
+
+module _ (κs : Lfts 6) (a : Dens κs order-kinds.ps) where
+  pub equal-asks-nothing : equal.Asked κs a
+  equal-asks-nothing = tt
+
+  pub order-asks-nothing : order.Asked κs a
+  order-asks-nothing = tt
+
+  pub substring-asks-nothing : substring.Asked κs a
+  substring-asks-nothing = tt
 
 -- ---- a table and a line
 

@@ -3,7 +3,8 @@
 -- Contracts.antt takes from the contract itself: of a call on texts `Prepares` or `Called` with the call's outcome and
 -- values, which speak of one value c, the call; of `add_line` `Added`; of `check_table` the equation `checkOutcome r ≡
 -- tableAnswer t`. It says the sentence of the answer r and of the slices afterwards. The `_accepted` calls have the same
--- contracts, so it holds of them too. Where a theorem has `call (some k) ..`, the call's number names the collation k.
+-- `ensures` under a `requires`, an accepted table: where that holds, so does the theorem. Where a theorem has `call (some k)
+-- ..`, the call's number names the collation k.
 -- Assumes nothing.
 use mathlib.Core.Path.{_≡_, refl, sym, ap, _∙_}
 use Prim.Native.Nat.{ℕ, _≤_, _<_}
@@ -45,14 +46,15 @@ use Rattle.demands.specs.Faults.{readingFaults}
 use Rattle.demands.specs.Faults.{lineFaults}
 use Rattle.demands.proofs.FaultRows.{row-exactly, row-clear, number-exactly, plain-exactly}
 use Rattle.demands.proofs.TableFaults.{form-renders, table-renders}
-use Rattle.demands.proofs.LineFaults.{line-row}
+use Rattle.demands.proofs.LineFaults.{line-row, line-clear}
 use Rattle.demands.proofs.Rows.{first-exactly, first-callChecks}
 use Rattle.demands.proofs.Numbers.{one-exactly, two-first, two-second, eight-first, eight-second, table-exactly}
 
 -- ---- "Every call ends with an answer on any octets, any table, any buffer sizes."
 
 -- What `rt check` proves of a function is that it ends with an answer that meets its contract, wherever its `requires` hold.
--- `check_table`, `prepare`, `equal`, `order`, `substring` and `add_line` have no `requires`; so there is no theorem here.
+-- That no public call has one is said by `check-table-asks-nothing` and the others of Contracts.antt and ContractsC.antt, of
+-- all arguments.
 
 -- ---- "Bad input gets its numbered refusal exactly when the documents say,"
 
@@ -194,6 +196,10 @@ module _ (b : Built) (line : List ℕ) where
   -- a line is refused with number n exactly when that is the first fault of the row; place and detail are 0
   pub line-first : (n d : ℕ) → (lineRefusal b line ≡ some (refusal n 0 d)) ↔ FirstFault (lineFaults b line) n d
   line-first = line-row b line
+
+  -- and is not refused exactly when none of them applies
+  pub line-taken : (lineRefusal b line ≡ none) ↔ Clear (lineFaults b line)
+  line-taken = line-clear b line
 
   -- 28 exactly when the state is impossible
   pub number-28 : (lineRefusal b line ≡ some (refusal 28 0 0)) ↔ Impossible b

@@ -3,7 +3,8 @@
 -- Contracts.antt takes from the contract itself: of a call on texts `Prepares` or `Called` with the call's outcome and
 -- values, which speak of one value c, the call; of `add_line` `Added`; of `check_table` the equation `checkOutcome r ≡
 -- tableAnswer t`. It says the sentence of the answer r and of the slices afterwards. The `_accepted` calls have the same
--- contracts, so it holds of them too. Where a theorem has `call (some k) ..`, the call's number names the collation k.
+-- `ensures` under a `requires`, an accepted table: where that holds, so does the theorem. Where a theorem has `call (some k)
+-- ..`, the call's number names the collation k.
 -- Assumes nothing.
 use mathlib.Core.Path.{_≡_, refl}
 use Prim.Native.Nat.{ℕ, _≤_, _<_}
@@ -20,7 +21,9 @@ use Rattle.terms.specs.declared.TextPosition.{TextPosition}
 use Rattle.utf8.specs.Utf8.{Character, characters}
 use Rattle.table.specs.Mapping.{Mapping}
 use Rattle.table.specs.Table.{Table, formRefusal, mappingOf}
-use Rattle.decompose.specs.Steps.{stepsKey}
+use Rattle.decompose.specs.Steps.{StepsGive, stepsKey, stepsLookups}
+use Rattle.decompose.specs.TableCheck.{tableRefusal}
+use Rattle.decompose.proofs.Demand3.{accepted-steps}
 use Rattle.keys.specs.Keys.{PreparedText, upper, prepared, keyOf}
 use Rattle.keys.specs.declared.Summary.{Summary}
 use Rattle.keys.proofs.Validity.{key-valid, key-invalid}
@@ -70,7 +73,13 @@ key-octet m t = refl
 pub key-ascii : (m : Mapping) (t : List ℕ) → keyOf AsciiCasemap m t ≡ map upper t
 key-ascii m t = refl
 
--- i;unicode-casemap: the key of the published steps, of a text that is UTF-8
+-- i;unicode-casemap, of a text that is UTF-8: over an accepted table the key of the published steps
+pub key-published : (t : Table) → tableRefusal t ≡ none → (text : List ℕ) (chs : List Character) → characters text ≡ some chs
+    → (n : ℕ) × StepsGive (mappingOf t) chs (keyOf UnicodeCasemap (mappingOf t) text) n
+key-published t ok text chs valid =
+    (stepsLookups (mappingOf t) chs, rw (key-valid (mappingOf t) text chs valid) (accepted-steps t ok chs))
+
+-- over any mapping what computes that key
 pub key-unicode : (m : Mapping) (t : List ℕ) (chs : List Character) → characters t ≡ some chs
     → keyOf UnicodeCasemap m t ≡ stepsKey m chs
 key-unicode = key-valid

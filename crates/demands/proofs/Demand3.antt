@@ -3,7 +3,8 @@
 -- Contracts.antt takes from the contract itself: of a call on texts `Prepares` or `Called` with the call's outcome and
 -- values, which speak of one value c, the call; of `add_line` `Added`; of `check_table` the equation `checkOutcome r ≡
 -- tableAnswer t`. It says the sentence of the answer r and of the slices afterwards. The `_accepted` calls have the same
--- contracts, so it holds of them too. Where a theorem has `call (some k) ..`, the call's number names the collation k.
+-- `ensures` under a `requires`, an accepted table: where that holds, so does the theorem. Where a theorem has `call (some k)
+-- ..`, the call's number names the collation k.
 -- Assumes nothing.
 use mathlib.Core.Path.{_≡_, sym, ap, _∙_}
 use Prim.Native.Nat.{ℕ, _*_, _≤_}

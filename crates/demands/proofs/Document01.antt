@@ -5,7 +5,7 @@ use mathlib.Core.Path.{_≡_, refl, sym, ap, _∙_, subst}
 use Prim.Native.Nat.{ℕ, suc, _+_, _*_, _≤_}
 use native.Mathlib.Nat.{zero-add}
 use native.Mathlib.Omega.{arith}
-use mathlib.Core.Bool.{Bool, true, false, not}
+use mathlib.Core.Bool.{Bool, true, false, not, cond}
 use mathlib.Core.Logic.{_↔_}
 use mathlib.Core.Option.{Option, none, some}
 use mathlib.Core.List.{List, [], _∷_, _++_, map, append-assoc}
@@ -14,7 +14,7 @@ use borrow.Author.Tests.{le-ltb, not-true}
 use Rattle.terms.specs.CodePoints.{scalar}
 use Rattle.terms.specs.Collations.{readsTable}
 use Rattle.terms.specs.Lists.{all, empty, over, there, In}
-use Rattle.terms.specs.Refusals.{textMost, Outcome, refused, gives, Given, row}
+use Rattle.terms.specs.Refusals.{textMost, Outcome, refused, gives, Given}
 use Rattle.terms.specs.declared.Collation.{Collation}
 use Rattle.terms.specs.declared.Collation.the-variants.{Octet, AsciiCasemap, UnicodeCasemap}
 use Rattle.terms.specs.declared.Refusal.{Refusal}
@@ -38,6 +38,9 @@ use Rattle.prepare.specs.Calls.{Lent, Call, call, preparedIn, lengthChecks, roo
 use Rattle.prepare.specs.Preparing.{shownKey, Prepares}
 use Rattle.prepare.specs.declared.Preparation.the-variants.{Prepared, Refused}
 use Rattle.prepare.proofs.Answering.{answered-gives}
+use Rattle.occurrence.specs.Occurrence.{occurrence}
+use Rattle.search.specs.Substring.{foundValues, substringValues, soughtValues}
+use Rattle.mz_texts.specs.Promises.{RowAnswered}
 use Rattle.ucd.specs.Lines.{Properties, LineSays, saysNothing}
 use Rattle.ucd.proofs.Lines.{lineProperties-exactly}
 use Rattle.builder.specs.Builder.{Built, built, accepted, moved, appended, Added}
@@ -95,6 +98,14 @@ titles-unasked m o same u = elim u as
     ]
 
 -- ---- "Marks aren't reordered."
+
+-- the full decompositions of some parts and then of others stand in that order
+pub parts-append : (m : Mapping) {ps qs codes rest : List ℕ} {asked later : ℕ} → UnfoldEach m ps codes asked
+    → UnfoldEach m qs rest later → UnfoldEach m (ps ++ qs) (codes ++ rest) (asked + later)
+parts-append m {later = later} none-left v = rw (zero-add later) v
+parts-append m {rest = rest} {later = later} (part {codes = codes} {rest = more} {asked = asked} {later = then} u w) v =
+    let sum : asked + then + later ≡ asked + (then + later) = omega arith in
+    rw (append-assoc codes more rest, sum) (part u (parts-append m w v))
 
 -- what the published steps give of some characters and then of others is the key of the one and then that of the other
 pub steps-append : (m : Mapping) {chs ds : List Character} {key more : List ℕ} {n k : ℕ} → StepsGive m chs key n
@@ -188,7 +199,7 @@ module _ (k : Collation) (unread : readsTable k ≡ false) (t u : Table) (ls : L
       go AsciiCasemap e = refl
       go UnicodeCasemap e = let z : _≡_ {A = ℕ} 0 1 = cc in absurd (omega arith)
 
-  -- and so are the texts prepared, by which a call answers and fills its buffers
+  -- and so are the texts prepared, by which `prepare`, `equal` and `order` answer and every call fills its buffers
   pub unread-keys : preparedIn (call (some k) t ls) ≡ preparedIn (call (some k) u ls)
   unread-keys = go k unread
     where
@@ -197,14 +208,42 @@ module _ (k : Collation) (unread : readsTable k ≡ false) (t u : Table) (ls : L
       go AsciiCasemap e = refl
       go UnicodeCasemap e = let z : _≡_ {A = ℕ} 0 1 = cc in absurd (omega arith)
 
+found-unread : (k : Collation) → readsTable k ≡ false → (m o : Mapping) (t : List ℕ) (n : ℕ) (x : Option ℕ)
+    → foundValues k m t n x ≡ foundValues k o t n x
+found-unread k e m o t n none = refl
+found-unread Octet e m o t n (some i) = refl
+found-unread AsciiCasemap e m o t n (some i) = refl
+found-unread UnicodeCasemap e m o t n (some i) = let z : _≡_ {A = ℕ} 0 1 = cc in absurd (omega arith)
+
+-- and so is what `substring` answers
+pub unread-sought : (k : Collation) → readsTable k ≡ false → (t u : Table) (l n : Lent)
+    → soughtValues (call (some k) t (l ∷ n ∷ [])) ≡ soughtValues (call (some k) u (l ∷ n ∷ []))
+unfolding substringValues
+unread-sought Octet e t u l n =
+    ap (λ (vs : List ℕ). some (cond (empty (l .text)) (1 ∷ 0 ∷ 0 ∷ 0 ∷ 0 ∷ []) vs))
+    (found-unread Octet e (mappingOf t) (mappingOf u) (n .text) (length (l .text)) (occurrence (l .text) (n .text)))
+unread-sought AsciiCasemap e t u l n =
+    let s = map upper (l .text) in
+    ap (λ (vs : List ℕ). some (cond (empty (l .text)) (1 ∷ 0 ∷ 0 ∷ 0 ∷ 0 ∷ []) vs))
+    (found-unread AsciiCasemap e (mappingOf t) (mappingOf u) (n .text) (length s) (occurrence s (map upper (n .text))))
+unread-sought UnicodeCasemap e t u l n = let z : _≡_ {A = ℕ} 0 1 = cc in absurd (omega arith)
+
 -- ---- "On refusal .. a shown key is empty, and every other field of the answer is 0."
 
 pub refused-shows : (x : Refusal) (text buffer : List ℕ) → shownKey (Refused x) text buffer ≡ []
 refused-shows x text buffer = refl
 
--- an answer of n values as one row of numbers
-pub refused-row : (n : ℕ) (x : Refusal) → row n (refused x) ≡ x .number ∷ x .place ∷ x .detail ∷ replicate n 0
-refused-row n x = refl
+-- a call of the C interface on texts that is refused with x: its row, and every key buffer as it was
+pub refused-row : {n : ℕ} {values : Call → Option (List ℕ)} {c : Call} {answer : List ℕ} {after : List (List ℕ)}
+    → RowAnswered n values c answer after → (x : Refusal) → callRefusal c ≡ some x
+    → (answer ≡ x .number ∷ x .place ∷ x .detail ∷ replicate n 0) × (after ≡ map (λ l. l .buffer) (c .lents))
+refused-row h x e = (let told = rw e at (h .answered) in cc, rw e at (h .left))
+
+-- one that is not refused and has these values
+pub given-row : {n : ℕ} {values : Call → Option (List ℕ)} {c : Call} {answer : List ℕ} {after : List (List ℕ)}
+    → RowAnswered n values c answer after → callRefusal c ≡ none → (vs : List ℕ) → values c ≡ some vs
+    → answer ≡ 0 ∷ 0 ∷ 0 ∷ vs
+given-row h e vs v = let told = rw (e, v) at (h .answered) in cc
 
 -- ---- "A text is never refused for its content."
 

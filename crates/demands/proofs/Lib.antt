@@ -14,3 +14,4 @@ pub mod Demand2
 pub mod Demand3
 pub mod Contracts
 pub mod Document01
+pub mod ContractsC

@@ -3,6 +3,6 @@
 //
 // Those whose names end in `_accepted` ask for a table that is accepted already; the others take any arguments at all. That
 // pointers and lengths are what the headers say of them is the C caller's part: no proof sees it.
-mod one_text;
+pub mod one_text;
 mod rows;
-mod two_texts;
+pub mod two_texts;

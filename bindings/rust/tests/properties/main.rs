@@ -24,8 +24,9 @@ fn setting(name: &str, or: u64) -> u64 {
 
 /// Tries a property on many cases, each with a seed of its own.
 fn for_cases(property: impl Fn(&mut Random)) {
-    let first = setting("MZ_SEED", 20_261_116);
-    for seed in first..first + setting("MZ_CASES", 4_000) {
+    let (first, cases) = (setting("MZ_SEED", 20_261_116), setting("MZ_CASES", 4_000));
+    assert!(cases > 0, "MZ_CASES is 0: nothing would be tried");
+    for seed in first..first + cases {
         if let Err(failure) = catch_unwind(AssertUnwindSafe(|| property(&mut Random::new(seed)))) {
             eprintln!("the case fails with MZ_SEED={seed} MZ_CASES=1");
             resume_unwind(failure);

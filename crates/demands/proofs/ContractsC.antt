@@ -1,0 +1,142 @@
+-- What the contracts of the C interface say, as Contracts.antt has it of the library's own calls: each row and every buffer.
+-- A call of include/mundeziwa.h asks for nothing.
+-- Assumes nothing.
+use mathlib.Core.Path.{_≡_}
+use mathlib.Core.List.{[], _∷_}
+use contract.Lifetimes.{Lfts}
+use denote.Triple.Clauses.{AtExit}
+use borrow.Fn.Kinds.{Dens, endedOf, resT}
+use Rattle.terms.specs.Collations.{collationOf}
+use Rattle.terms.specs.Refusals.{row}
+use Rattle.table.specs.Table.{table}
+use Rattle.decompose.specs.TableCheck.{tableAnswer}
+use Rattle.prepare.specs.Calls.{Call, oneCall, twoCall}
+use Rattle.prepare.specs.Preparing.{preparedValues}
+use Rattle.compare.specs.Compare.{equalityValues, orderValues}
+use Rattle.search.specs.Substring.{soughtValues}
+use Rattle.builder.specs.Builder.{built}
+use Rattle.mz_tables.specs.Promises.{stateOf, LineAdded}
+use Rattle.mz_tables.proofs.mz_check_table.Kinds as mz-check-table-kinds
+use Rattle.mz_tables.proofs.mz_check_table.Reads as mz-check-table
+use Rattle.mz_tables.proofs.mz_add_line.Kinds as mz-add-line-kinds
+use Rattle.mz_tables.proofs.mz_add_line.Reads as mz-add-line
+use Rattle.mz_texts.specs.Promises.{RowAnswered}
+use Rattle.mz_texts.proofs.one_text.mz_prepare.Kinds as mz-prepare-kinds
+use Rattle.mz_texts.proofs.one_text.mz_prepare.Reads as mz-prepare
+use Rattle.mz_texts.proofs.one_text.mz_prepare_accepted.Reads as mz-prepare-accepted
+use Rattle.mz_texts.proofs.two_texts.mz_equal.Kinds as mz-equal-kinds
+use Rattle.mz_texts.proofs.two_texts.mz_equal.Reads as mz-equal
+use Rattle.mz_texts.proofs.two_texts.mz_equal_accepted.Reads as mz-equal-accepted
+use Rattle.mz_texts.proofs.two_texts.mz_order.Kinds as mz-order-kinds
+use Rattle.mz_texts.proofs.two_texts.mz_order.Reads as mz-order
+use Rattle.mz_texts.proofs.two_texts.mz_order_accepted.Reads as mz-order-accepted
+use Rattle.mz_texts.proofs.two_texts.mz_substring.Kinds as mz-substring-kinds
+use Rattle.mz_texts.proofs.two_texts.mz_substring.Reads as mz-substring
+use Rattle.mz_texts.proofs.two_texts.mz_substring_accepted.Reads as mz-substring-accepted
+
+-- ---- a table and a line
+
+-- `mz_check_table(entries, pool, answer)`
+module _ (κs : Lfts 3) (a : Dens κs mz-check-table-kinds.ps) where
+  pub mz-check-table-asks-nothing : mz-check-table.Asked κs a
+  mz-check-table-asks-nothing = tt
+
+  pub mz-check-table-contract : (r : resT mz-check-table-kinds.r κs .Denot)
+      (s : AtExit (endedOf 3 mz-check-table-kinds.ps mz-check-table-kinds.r) κs)
+      → mz-check-table.Learnt κs a r s
+      → s .1 .1 .0 .now ≡ row 0 (tableAnswer (table (a .0 .now) (a .1 .0 .now)))
+  mz-check-table-contract r s h = h
+
+-- `mz_add_line(entries_used, pool_used, next, line, entries, pool, answer)`
+module _ (κs : Lfts 4) (a : Dens κs mz-add-line-kinds.ps) where
+  pub mz-add-line-asks-nothing : mz-add-line.Asked κs a
+  mz-add-line-asks-nothing = tt
+
+  pub mz-add-line-contract : (r : resT mz-add-line-kinds.r κs .Denot)
+      (s : AtExit (endedOf 4 mz-add-line-kinds.ps mz-add-line-kinds.r) κs)
+      → mz-add-line.Learnt κs a r s
+      → LineAdded (built (stateOf (a .0) (a .1 .0) (a .1 .1 .0)) (a .1 .1 .1 .1 .0 .now) (a .1 .1 .1 .1 .1 .0 .now))
+      (a .1 .1 .1 .0 .now) (s .1 .1 .1 .1 .1 .1 .0 .now) (table (s .1 .1 .1 .1 .0 .now) (s .1 .1 .1 .1 .1 .0 .now))
+  mz-add-line-contract r s h = h
+
+-- ---- one text: (collation, text, entries, pool, key, answer)
+
+module _ (κs : Lfts 5) (a : Dens κs mz-prepare-kinds.ps) where
+  abbrev one : Call
+  one = oneCall (collationOf (a .0)) (a .1 .0 .now) (a .1 .1 .0 .now) (a .1 .1 .1 .0 .now) (a .1 .1 .1 .1 .0 .now)
+
+  pub mz-prepare-asks-nothing : mz-prepare.Asked κs a
+  mz-prepare-asks-nothing = tt
+
+  module _ (r : resT mz-prepare-kinds.r κs .Denot) (s : AtExit (endedOf 5 mz-prepare-kinds.ps mz-prepare-kinds.r) κs) where
+    pub mz-prepare-contract : mz-prepare.Learnt κs a r s
+        → RowAnswered 4 preparedValues one (s .1 .1 .1 .1 .1 .0 .now) (s .1 .1 .1 .1 .0 .now ∷ [])
+    mz-prepare-contract h = h
+
+    -- and its twin
+    pub mz-prepare-accepted-contract : mz-prepare-accepted.Learnt κs a r s
+        → RowAnswered 4 preparedValues one (s .1 .1 .1 .1 .1 .0 .now) (s .1 .1 .1 .1 .0 .now ∷ [])
+    mz-prepare-accepted-contract h = h
+
+-- ---- `mz_equal(collation, first, second, entries, pool, first_key, second_key, answer)`
+
+module _ (κs : Lfts 7) (a : Dens κs mz-equal-kinds.ps) where
+  pub mz-equal-asks-nothing : mz-equal.Asked κs a
+  mz-equal-asks-nothing = tt
+
+  module _ (r : resT mz-equal-kinds.r κs .Denot) (s : AtExit (endedOf 7 mz-equal-kinds.ps mz-equal-kinds.r) κs) where
+    -- the row and both buffers
+    abbrev equal-answered : Type 0
+    equal-answered =
+        RowAnswered 1 equalityValues (twoCall (collationOf (a .0)) (a .1 .0 .now) (a .1 .1 .0 .now) (a .1 .1 .1 .0 .now)
+        (a .1 .1 .1 .1 .0 .now) (a .1 .1 .1 .1 .1 .0 .now) (a .1 .1 .1 .1 .1 .1 .0 .now)) (s .1 .1 .1 .1 .1 .1 .1 .0 .now)
+        (s .1 .1 .1 .1 .1 .0 .now ∷ s .1 .1 .1 .1 .1 .1 .0 .now ∷ [])
+
+    pub mz-equal-contract : mz-equal.Learnt κs a r s → equal-answered
+    mz-equal-contract h = h
+
+    -- and its twin
+    pub mz-equal-accepted-contract : mz-equal-accepted.Learnt κs a r s → equal-answered
+    mz-equal-accepted-contract h = h
+
+-- ---- `mz_order(collation, first, second, entries, pool, first_key, second_key, answer)`
+
+module _ (κs : Lfts 7) (a : Dens κs mz-order-kinds.ps) where
+  pub mz-order-asks-nothing : mz-order.Asked κs a
+  mz-order-asks-nothing = tt
+
+  module _ (r : resT mz-order-kinds.r κs .Denot) (s : AtExit (endedOf 7 mz-order-kinds.ps mz-order-kinds.r) κs) where
+    -- the row and both buffers
+    abbrev order-answered : Type 0
+    order-answered =
+        RowAnswered 1 orderValues (twoCall (collationOf (a .0)) (a .1 .0 .now) (a .1 .1 .0 .now) (a .1 .1 .1 .0 .now)
+        (a .1 .1 .1 .1 .0 .now) (a .1 .1 .1 .1 .1 .0 .now) (a .1 .1 .1 .1 .1 .1 .0 .now)) (s .1 .1 .1 .1 .1 .1 .1 .0 .now)
+        (s .1 .1 .1 .1 .1 .0 .now ∷ s .1 .1 .1 .1 .1 .1 .0 .now ∷ [])
+
+    pub mz-order-contract : mz-order.Learnt κs a r s → order-answered
+    mz-order-contract h = h
+
+    -- and its twin
+    pub mz-order-accepted-contract : mz-order-accepted.Learnt κs a r s → order-answered
+    mz-order-accepted-contract h = h
+
+-- ---- `mz_substring(collation, first, second, entries, pool, first_key, second_key, answer)`
+
+module _ (κs : Lfts 7) (a : Dens κs mz-substring-kinds.ps) where
+  pub mz-substring-asks-nothing : mz-substring.Asked κs a
+  mz-substring-asks-nothing = tt
+
+  module _ (r : resT mz-substring-kinds.r κs .Denot) (s : AtExit (endedOf 7 mz-substring-kinds.ps mz-substring-kinds.r) κs) where
+    -- the row and both buffers
+    abbrev substring-answered : Type 0
+    substring-answered =
+        RowAnswered 5 soughtValues (twoCall (collationOf (a .0)) (a .1 .0 .now) (a .1 .1 .0 .now) (a .1 .1 .1 .0 .now)
+        (a .1 .1 .1 .1 .0 .now) (a .1 .1 .1 .1 .1 .0 .now) (a .1 .1 .1 .1 .1 .1 .0 .now)) (s .1 .1 .1 .1 .1 .1 .1 .0 .now)
+        (s .1 .1 .1 .1 .1 .0 .now ∷ s .1 .1 .1 .1 .1 .1 .0 .now ∷ [])
+
+    pub mz-substring-contract : mz-substring.Learnt κs a r s → substring-answered
+    mz-substring-contract h = h
+
+    -- and its twin
+    pub mz-substring-accepted-contract : mz-substring-accepted.Learnt κs a r s → substring-answered
+    mz-substring-accepted-contract h = h
