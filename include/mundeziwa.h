@@ -6,9 +6,9 @@
  * The library keeps nothing, allocates nothing and calls nothing but memcpy and memset: no locale, no errno, no global state. Any
  * number of threads may call it at once. All memory is the caller's, lent for the call alone.
  *
- * SLICES. A slice is a pointer and the number of its ELEMENTS (octets of a text, 32-bit numbers of a table). Where the
- * number is 0 the pointer may be anything that is aligned, but not NULL. Slices that are written (keys; entries and pool of mz_add_line;
- * the answer) must overlap no other argument; those that are only read may overlap each other.
+ * SLICES. A slice is a pointer and the number of its ELEMENTS (octets of a text, 32-bit numbers of a table). Where the number
+ * is 0 the pointer may be anything that is aligned, but not NULL. Slices that are written (keys; entries and pool of
+ * mz_add_line; the answer) must overlap no other argument; those that are only read may overlap each other.
  *
  * TABLE. entries holds MZ_ENTRY_WIDTH numbers for each entry: code point, titlecase (the code point itself if none), start of its
  * decomposition in the pool, number of code points there. Entries ascend by code point; a start is the sum of all earlier counts.
