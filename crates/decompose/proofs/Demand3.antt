@@ -35,8 +35,7 @@ use Rattle.decompose.proofs.Bounds.{asks-most, full-most, stepsLookups-
 use Rattle.decompose.proofs.Walk.{unfolds-whole}
 
 -- ---- "accepted exactly when it has document 01's form and every code point in it unfolds completely within 8 levels into at
--- most 32
--- code points"
+-- most 32 code points"
 
 -- the test of 7 says whether a code point unfolds well
 pub unfolds→well : (m : Mapping) (c : ℕ) → unfolds m c ≡ true → UnfoldsWell m c

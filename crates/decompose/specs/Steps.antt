@@ -21,8 +21,7 @@ pub data StepsGive (m : Mapping) : List Character → List ℕ → ℕ → Type 
       → StepsGive m (ch ∷ chs) (encodes codes ++ key) (suc asked + later)
 
 -- ---- as definitions that compute, which contracts cite (over an accepted table they give what the relation says:
--- `accepted-steps` of
--- proofs/Demand3.antt)
+-- `accepted-steps` of proofs/Demand3.antt)
 
 -- what a code point becomes: "take its titlecase code point once, if it has one; then replace it by its decomposition .. until
 -- none decomposes"

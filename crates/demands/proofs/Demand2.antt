@@ -166,8 +166,7 @@ module _ {k : Collation} {t : Table} {l n : Lent} {r : Sought} {after : List (Li
   substring-none text = none-exactly k (mappingOf t) (l .text) (n .text) r text told
 
   -- ---- "A hit reports the first occurrence in the key, and the smallest run of whole characters of the text that covers it
-  -- (octets,
-  -- where the text is compared octet by octet)."
+  -- (octets, where the text is compared octet by octet)."
 
   -- a hit at these four positions is reported exactly when the first occurrence, with its run, is there
   pub substring-hit : 0 < length (l .text) → (a b : KeyPosition) (c d : TextPosition)

@@ -40,8 +40,7 @@ use Rattle.demands.proofs.Preparing.{keyed-left, room-short, room-place
 use Rattle.demands.proofs.Attained.{widest-attains}
 
 -- ---- "Whatever two slices are handed in as a mapping table, it is accepted *exactly* when it has document 01's form and
--- every code
--- point in it unfolds completely within 8 levels into at most 32 code points."
+-- every code point in it unfolds completely within 8 levels into at most 32 code points."
 
 module _ (t : Table) {r : Check} (h : checkOutcome r ≡ tableAnswer t) where
   -- `check_table` answers Passed of exactly the tables that are so
@@ -59,8 +58,7 @@ module _ (t : Table) {r : Check} (h : checkOutcome r ≡ tableAnswer t) where
   check-every e = accepted-level t (accepted-exactly t .1 (check-accepts .0 e))
 
   -- ---- "Over every accepted table, for every valid text of n code points, the published steps make at most 258 n lookups
-  -- and give a
-  -- key of at most 128 n octets."
+  -- and give a key of at most 128 n octets."
 
   -- of any characters, so of every valid text's
   pub check-bounds : r ≡ Passed → (chs : List Character) → Bounds (mappingOf t) chs
@@ -92,8 +90,7 @@ pub bounds-attained : Attained widest widestText widestCharacters 258 128
 bounds-attained = widest-attains
 
 -- ---- "Every preparation of such a text that reads the table, in a call that isn't refused, gives exactly the key of those
--- steps and,
--- where it is a call of its own, reports exactly as many lookups as they make."
+-- steps and, where it is a call of its own, reports exactly as many lookups as they make."
 
 -- a call of its own is `prepare`
 module _ {t : Table} {l : Lent} {r : Preparation} {after : List ℕ} (h : Prepares (call (some UnicodeCasemap) t (l ∷ [])) r after)

@@ -14,7 +14,7 @@ use borrow.Author.Tests.{le-ltb, not-true}
 use Rattle.terms.specs.CodePoints.{scalar}
 use Rattle.terms.specs.Collations.{readsTable}
 use Rattle.terms.specs.Lists.{all, empty, over, there, In}
-use Rattle.terms.specs.Refusals.{textMost, Outcome, refused, gives, Given}
+use Rattle.terms.specs.Refusals.{textMost, Outcome, Given}
 use Rattle.terms.specs.declared.Collation.{Collation}
 use Rattle.terms.specs.declared.Collation.the-variants.{Octet, AsciiCasemap, UnicodeCasemap}
 use Rattle.terms.specs.declared.Refusal.{Refusal}
@@ -37,7 +37,6 @@ use Rattle.keys.proofs.Injective.{truth-inj}
 use Rattle.prepare.specs.Calls.{Lent, Call, call, preparedIn, lengthChecks, roomChecks, callRefusal, keyedAll, Called}
 use Rattle.prepare.specs.Preparing.{shownKey, Prepares}
 use Rattle.prepare.specs.declared.Preparation.the-variants.{Prepared, Refused}
-use Rattle.prepare.proofs.Answering.{answered-gives}
 use Rattle.occurrence.specs.Occurrence.{occurrence}
 use Rattle.search.specs.Substring.{foundValues, substringValues, soughtValues}
 use Rattle.mz_texts.specs.Promises.{RowAnswered}
@@ -51,7 +50,7 @@ use Rattle.demands.specs.Demands.{EachRoomy}
 use Rattle.demands.specs.Faults.{Scalar, HasMapping}
 use Rattle.demands.proofs.Growing.{taken-unrefused}
 use Rattle.demands.proofs.LineFaults.{mapping-exactly}
-use Rattle.demands.proofs.Preparing.{numbers-are}
+use Rattle.demands.proofs.Preparing.{numbers-are, given-left}
 use Rattle.demands.proofs.Reflect.{all-in}
 use Rattle.demands.proofs.TableFaults.{scalar-exactly}
 
@@ -117,8 +116,7 @@ steps-append m {more = more} {k = k} (character {codes = codes} {key = key} {ask
     rw (append-assoc (encodes codes) key more, sum) (character u (steps-append m s t))
 
 -- ---- "Preparation reports it, and whether the text is valid (always so under collations 1 and 2). It is 0 for an invalid
--- text and
--- under collations 1 and 2."
+-- text and under collations 1 and 2."
 
 module _ {k : Collation} {t : Table} {l : Lent} {s : Summary} {after : List ℕ}
     (h : Prepares (call (some k) t (l ∷ [])) (Prepared s) after) where
@@ -148,17 +146,12 @@ module _ {k : Collation} {t : Table} {l : Lent} {s : Summary} {after : List ℕ}
   count-invalid e broken = let told = rw (e, broken) at (numbers-are h refl) in cc
 
 -- ---- "All other keys stand at the start of the lent key buffer, and octets after the key stay. Comparing calls leave both
--- keys so,
--- each in its own buffer."
+-- keys so, each in its own buffer."
 
 -- a call on texts that is not refused leaves each key in its buffer
 pub call-left : {R : Type 0} {outcome : R → Outcome} {values : Call → Option (List ℕ)} {c : Call} {r : R} {after : List (List ℕ)}
     → Called outcome values c r after → Given (outcome r) → after ≡ keyedAll (preparedIn c) (c .lents)
-call-left {outcome} {c = c} {r = r} h g = rw (go (outcome r) refl g) at (h .left)
-  where
-    go : (o : Outcome) → outcome r ≡ o → Given o → callRefusal c ≡ none
-    go (refused x) e g = absurd g
-    go (gives vs) e g = answered-gives h vs e .0
+call-left = given-left
 
 module _ (m : Mapping) (t buffer : List ℕ) where
   -- so under 1, where the key is the text: as before

@@ -89,25 +89,28 @@ prepared-chs : (m : Mapping) (l : Lent) (chs : List Character) → characters (l
     → prepared UnicodeCasemap m (l .text) ≡ unicodePrepared m (l .text) (some chs)
 prepared-chs m l chs valid = ap (unicodePrepared m (l .text)) valid
 
--- the table of a call that is refused by nothing before its keys' room was accepted
-module _ {R : Type 0} {outcome : R → Outcome} {values : Call → Option (List ℕ)} {t : Table} {ls : List Lent} {r : R}
-    {after : List (List ℕ)}
-    (h : Called outcome values (call (some UnicodeCasemap) t ls) r after) where
+-- of any call on texts
+module _ {R : Type 0} {outcome : R → Outcome} {values : Call → Option (List ℕ)} {c : Call} {r : R} {after : List (List ℕ)}
+    (h : Called outcome values c r after) where
   -- values were given, so nothing refused it
-  pub given-unrefused : Given (outcome r) → callRefusal (call (some UnicodeCasemap) t ls) ≡ none
+  pub given-unrefused : Given (outcome r) → callRefusal c ≡ none
   given-unrefused g = go (outcome r) refl g
     where
-      go : (o : Outcome) → outcome r ≡ o → Given o → callRefusal (call (some UnicodeCasemap) t ls) ≡ none
+      go : (o : Outcome) → outcome r ≡ o → Given o → callRefusal c ≡ none
       go (refused x) e g = absurd g
       go (gives vs) e g = answered-gives h vs e .0
 
-  -- and its table was accepted
-  pub given-accepted : Given (outcome r) → tableRefusal t ≡ none
-  given-accepted g = unrefused-table (call (some UnicodeCasemap) t ls) (given-unrefused g)
-
-  -- the key buffers are those with the keys
-  pub given-left : Given (outcome r) → after ≡ keyedAll (preparedIn (call (some UnicodeCasemap) t ls)) ls
+  -- and the key buffers are those with the keys
+  pub given-left : Given (outcome r) → after ≡ keyedAll (preparedIn c) (c .lents)
   given-left g = rw (given-unrefused g) at (h .left)
+
+-- under collation 3
+module _ {R : Type 0} {outcome : R → Outcome} {values : Call → Option (List ℕ)} {t : Table} {ls : List Lent} {r : R}
+    {after : List (List ℕ)}
+    (h : Called outcome values (call (some UnicodeCasemap) t ls) r after) where
+  -- values were given: its table was accepted
+  pub given-accepted : Given (outcome r) → tableRefusal t ≡ none
+  given-accepted g = unrefused-table (call (some UnicodeCasemap) t ls) (given-unrefused h g)
 
   -- refused with 8: its table was accepted, and a key has no room
   pub eight-accepted : (x : Refusal) → outcome r ≡ refused x → x .number ≡ 8 → tableRefusal t ≡ none
