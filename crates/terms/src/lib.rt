@@ -69,7 +69,7 @@ pub const EXPANSION_MOST: usize = 128;
 // The longest line of UnicodeData.txt that is taken, in octets.
 pub const LINE_MOST: usize = 512;
 
-// The refusal numbers of document 01.
+// The refusal numbers of document 01 and of the requests after it.
 pub const REFUSED_COLLATION: u32 = 1;
 
 pub const REFUSED_TEXT_LENGTH: u32 = 2;
@@ -105,6 +105,8 @@ pub const REFUSED_ORDER: u32 = 26;
 pub const REFUSED_NO_ROOM: u32 = 27;
 
 pub const REFUSED_STATE: u32 = 28;
+
+pub const REFUSED_FIELD_12: u32 = 29;
 
 // Whether a number is a scalar code point.
 pub fn is_scalar(c: u32) -> bool

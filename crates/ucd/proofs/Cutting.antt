@@ -11,7 +11,7 @@ use lib.Dec.{eqb}
 use lib.ListN.{length, take, drop, getD, length-drop, drop-of-length-le}
 use lib.Seq.{drop-length, getD-drop, drop-drop}
 use borrow.Author.Tests.{eq-eqb, ne-eqb}
-use Rattle.ucd.specs.Fields.{grow, cut, times}
+use Rattle.ucd.specs.Fields.{grow, cut, times, fields, field}
 use Rattle.ucd.specs.Promises.{pieceEnd}
 use Rattle.ucd.proofs.Walks.{drop-one}
 
@@ -188,3 +188,9 @@ stands-inside {sep} {t} {i} {at} s h = go (ℕ-discrete (at + pieceEnd sep (drop
         let one : length (cut sep (drop at t)) ≡ 1 = rw (stands-end s e) in
         absurd (omega (arith, stands-count s))
     go (no ne) = omega (arith, stands-most s)
+
+-- ---- fields
+
+-- a field of what is left of a line from field k on
+pub field-left : (line rest : List ℕ) (k i : ℕ) → fields rest ≡ drop k (fields line) → field i rest ≡ field (k + i) line
+field-left line rest k i e = ap (λ (l : List (List ℕ)). getD l i []) e ∙ getD-drop k (fields line) i []

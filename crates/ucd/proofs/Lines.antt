@@ -17,10 +17,10 @@ use Rattle.terms.proofs.Checks.{when-none, first-none}
 use Rattle.terms.proofs.Lists.{all-cons}
 use Rattle.terms.proofs.Tests.{none-some}
 use Rattle.ucd.specs.Fields.{fields, field, cut, semicolons, digits, wellSized, bounded, codePoint, codePoints}
-use Rattle.ucd.specs.Fields.{untagged, someParts, decomposition, titlecase}
+use Rattle.ucd.specs.Fields.{optional, untagged, someParts, decomposition, codePointOr, titlecase}
 use Rattle.ucd.specs.Lines.{Properties, LineSays, lineProperties, readingChecks, readingRefusal}
 use Rattle.ucd.proofs.Cutting.{length-cut}
-use Rattle.ucd.proofs.Listing.{optional-titlecase}
+use Rattle.ucd.proofs.Titlecase.{optional-says, titlecase-some}
 
 -- ---- at most 32 parts
 
@@ -55,7 +55,7 @@ unfolding lineProperties
 length-parts line p e =
     let code = bind-eq-some-iff (codePoint (field 0 line)) _ .0 e in
     let listed = bind-eq-some-iff (decomposition (field 5 line)) _ .0 (code .2) in
-    let cased = map-eq-some-iff _ (titlecase (code .0) (field 14 line)) .0 (listed .2) in
+    let cased = map-eq-some-iff _ (titlecase (code .0) (field 12 line) (field 14 line)) .0 (listed .2) in
     omega
     (arith, length-decomposition (field 5 line) (listed .0) (listed .1), ap (λ (q : Properties). length (q .parts)) (cased .2))
 
@@ -78,11 +78,14 @@ there-some : {A : Type 0} (o : Option A) → there o ≡ true → (a : A) × (o 
 there-some none e = let z : _≡_ {A = ℕ} 0 1 = cc in absurd (omega arith)
 there-some (some a) e = (a, refl)
 
+optional-some : (c : ℕ) (os : List ℕ) → optional os ≡ true → (u : ℕ) × (codePointOr c os ≡ some u)
+optional-some c os e = there-some (codePointOr c os) (sym (optional-says c os) ∙ e)
+
 -- a line of which each field is well formed gives what they say
 pub lineProperties-some : (line ps : List ℕ) (c t : ℕ)
     → codePoint (field 0 line) ≡ some c
     → decomposition (field 5 line) ≡ some ps
-    → titlecase c (field 14 line) ≡ some t
+    → titlecase c (field 12 line) (field 14 line) ≡ some t
     → lineProperties line ≡ some (record { code = c; title = t; parts = ps })
 unfolding lineProperties bind
 lineProperties-some line ps c t e f g = rw (e, f, g)
@@ -94,10 +97,11 @@ lineProperties-read line e =
     let passed = first-none (readingChecks line) e in
     let code = there-some (codePoint (field 0 line)) (not-false _ (when-none _ _ (passed 2))) in
     let listed = there-some (decomposition (field 5 line)) (not-false _ (when-none _ _ (passed 3))) in
-    let cased = there-some (titlecase (code .0) (field 14 line))
-    (sym (optional-titlecase (code .0) (field 14 line)) ∙ not-false _ (when-none _ _ (passed 4))) in (
-      record { code = code .0; title = cased .0; parts = listed .0 },
-      lineProperties-some line (listed .0) (code .0) (cased .0) (code .1) (listed .1) (cased .1),
+    let upper = optional-some (code .0) (field 12 line) (not-false _ (when-none _ _ (passed 4))) in
+    let title = optional-some (upper .0) (field 14 line) (not-false _ (when-none _ _ (passed 5))) in
+    let cased = titlecase-some (code .0) (field 12 line) (field 14 line) (upper .0) (title .0) (upper .1) (title .1) in (
+      record { code = code .0; title = title .0; parts = listed .0 },
+      lineProperties-some line (listed .0) (code .0) (title .0) (code .1) (listed .1) cased,
     )
 
 -- ---- what a line says
@@ -112,7 +116,7 @@ lineProperties-exactly line p =
     by-fields e =
         let code = bind-eq-some-iff (codePoint (field 0 line)) _ .0 e in
         let listed = bind-eq-some-iff (decomposition (field 5 line)) _ .0 (code .2) in
-        let cased = map-eq-some-iff _ (titlecase (code .0) (field 14 line)) .0 (listed .2) in
+        let cased = map-eq-some-iff _ (titlecase (code .0) (field 12 line) (field 14 line)) .0 (listed .2) in
         subst (LineSays line) (cased .2) (record { code = code .1; parts = listed .1; title = cased .1 })
 
 -- ---- code points are at most 10FFFF
@@ -160,20 +164,26 @@ decomposition-most os cs = go (empty os)
     go true e = let same : [] ≡ cs = cc in rw (← same)
     go false e = someParts-most (untagged (cut 0x20 os)) cs e
 
-titlecase-most : (c : ℕ) (os : List ℕ) (t : ℕ) → c ≤ 0x10FFFF → titlecase c os ≡ some t → t ≤ 0x10FFFF
-unfolding titlecase
-titlecase-most c os t h = go (empty os)
+codePointOr-most : (c : ℕ) (os : List ℕ) (t : ℕ) → c ≤ 0x10FFFF → codePointOr c os ≡ some t → t ≤ 0x10FFFF
+unfolding codePointOr
+codePointOr-most c os t h = go (empty os)
   where
     go : (b : Bool) → cond b (some c) (codePoint os) ≡ some t → t ≤ 0x10FFFF
     go true e = let is : c ≡ t = cc in omega arith
     go false e = codePoint-most os t e
+
+titlecase-most : (c : ℕ) (upper title : List ℕ) (t : ℕ) → c ≤ 0x10FFFF → titlecase c upper title ≡ some t → t ≤ 0x10FFFF
+unfolding titlecase
+titlecase-most c upper title t h e =
+    let u = bind-eq-some-iff (codePointOr c upper) _ .0 e in
+    codePointOr-most (u .0) title t (codePointOr-most c upper (u .0) h (u .1)) (u .2)
 
 -- all that a line says
 pub says-most : (line : List ℕ) (p : Properties) → LineSays line p
     → all (λ c. leb c 0x10FFFF) (p .code ∷ p .title ∷ p .parts) ≡ true
 says-most line p s =
     let code = codePoint-most (field 0 line) (p .code) (s .code) in
-    let title = titlecase-most (p .code) (field 14 line) (p .title) code (s .title) in
+    let title = titlecase-most (p .code) (field 12 line) (field 14 line) (p .title) code (s .title) in
     all-cons (λ c. leb c 0x10FFFF) (p .code) (p .title ∷ p .parts) (le-leb (p .code) 0x10FFFF code)
     (all-cons (λ c. leb c 0x10FFFF) (p .title) (p .parts) (le-leb (p .title) 0x10FFFF title)
     (decomposition-most (field 5 line) (p .parts) (s .parts)))

@@ -4,16 +4,15 @@ use mathlib.Core.Path.{_≡_, refl, sym, _∙_, ap}
 use Prim.Native.Nat.{ℕ, _+_, _≤_, _<_}
 use native.Mathlib.Numerals.{add-one}
 use native.Mathlib.Omega.{arith}
-use mathlib.Core.Bool.{Bool, true, false, cond, _&&_, _||_, and-false}
+use mathlib.Core.Bool.{Bool, true, false, cond, _&&_, and-false}
 use mathlib.Core.Option.{Option, none, some, Option·map, bind}
 use mathlib.Core.List.{List, [], _∷_, _++_, append-nil}
 use lib.Dec.{leb}
 use lib.ListN.{length, take, drop, set}
 use lib.Seq.{append-snoc, take-suc-set}
 use borrow.Author.Tests.{le-leb, lt-leb}
-use Rattle.terms.specs.Lists.{empty, there}
 use Rattle.terms.specs.Refusals.{partsMost}
-use Rattle.ucd.specs.Fields.{cut, codePoint, codePoints, tag, untagged, someParts, decomposition, optional, titlecase}
+use Rattle.ucd.specs.Fields.{cut, codePoint, codePoints, tag, untagged, someParts, decomposition}
 use Rattle.ucd.specs.Promises.{pieceEnd}
 use Rattle.ucd.proofs.Walks.{empty-yes, empty-no}
 use Rattle.ucd.proofs.Cutting.{after, cut-step, cut-last, cut-more, cut-next, Stands, stands-first, stands-more}
@@ -162,14 +161,3 @@ module _ (t : List ℕ) (ne : length t ≡ 0 → ⊥) where
   decomposition-tagged e h =
       let s : untagged (cut 0x20 t) ≡ cut 0x20 (drop (pieceEnd 0x20 t + 1) t) = rw (cut-more 0x20 t h) (rw e) in
       rw (empty-no t ne, s)
-
--- ---- field 14
-
--- the field is well formed where it gives a titlecase
-pub optional-titlecase : (c : ℕ) (t : List ℕ) → optional t ≡ there (titlecase c t)
-unfolding titlecase
-optional-titlecase c t = go (empty t)
-  where
-    go : (b : Bool) → b || there (codePoint t) ≡ there (cond b (some c) (codePoint t))
-    go true = refl
-    go false = refl

@@ -1,4 +1,4 @@
--- The fields of a line of UnicodeData.txt: field 0 the code point, 5 the decomposition, 14 the titlecase.
+-- The fields of a line of UnicodeData.txt: field 0 the code point, 5 the decomposition, 12 the uppercase, 14 the titlecase.
 -- Assumes nothing.
 use Prim.Native.Nat.{ℕ, suc, _+_, _-_, _*_}
 use mathlib.Core.Bool.{Bool, cond, _&&_, _||_, not}
@@ -96,12 +96,16 @@ someParts ps = cond (leb 1 (length ps) && leb (length ps) partsMost) (codePoints
 unfoldable pub decomposition : List ℕ → Option (List ℕ)
 decomposition os = cond (empty os) (some []) (someParts (untagged (cut 0x20 os)))
 
--- ---- field 14: "an empty field 14 means no titlecase"
+-- ---- fields 12 and 14: "an empty titlecase means the simple uppercase, field 12"
 
 -- a field that may be empty is well formed: it is empty, or writes a code point
 abbrev pub optional : List ℕ → Bool
 optional os = empty os || there (codePoint os)
 
--- the titlecase that field 14 gives a code point, itself if it is empty
-unfoldable pub titlecase : ℕ → List ℕ → Option ℕ
-titlecase c os = cond (empty os) (some c) (codePoint os)
+-- the code point that such a field says: another one, c, if it is empty
+unfoldable pub codePointOr : ℕ → List ℕ → Option ℕ
+codePointOr c os = cond (empty os) (some c) (codePoint os)
+
+-- the titlecase that fields 12 and 14 give a code point: field 14's, the uppercase if that is empty, itself if both are
+unfoldable pub titlecase : ℕ → List ℕ → List ℕ → Option ℕ
+titlecase c upper title = bind (codePointOr c upper) (λ u. codePointOr u title)

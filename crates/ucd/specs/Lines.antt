@@ -1,4 +1,4 @@
--- A line of UnicodeData.txt: the properties that it gives its code point, and the checks of its reading (20 to 24).
+-- A line of UnicodeData.txt: the properties that it gives its code point, and the checks of its reading (20 to 24, 29).
 -- Assumes nothing.
 use mathlib.Core.Path.{_≡_}
 use Prim.Native.Nat.{ℕ}
@@ -25,18 +25,19 @@ pub record Properties : Type 0 where
 abbrev pub withParts : SimpleProperties → List ℕ → Properties
 withParts s parts = record { code = s .code .0; title = s .title .0; parts = parts }
 
--- "Field 0 is the code point, 5 the decomposition, 14 the titlecase"; nothing where one of them is malformed
+-- "Field 0 is the code point, 5 the decomposition, 14 the titlecase", or 12 where that is empty; nothing where one of the four
+-- is malformed
 unfoldable pub lineProperties : List ℕ → Option Properties
 lineProperties line =
     bind (codePoint (field 0 line))
     (λ c. bind (decomposition (field 5 line))
-    (λ ps. Option·map (λ t. record { code = c; title = t; parts = ps }) (titlecase c (field 14 line))))
+    (λ ps. Option·map (λ t. record { code = c; title = t; parts = ps }) (titlecase c (field 12 line) (field 14 line))))
 
 -- the same by each field: what a line says
 pub record LineSays (line : List ℕ) (p : Properties) : Type 0 where
   pub code : codePoint (field 0 line) ≡ some (p .code)
   pub parts : decomposition (field 5 line) ≡ some (p .parts)
-  pub title : titlecase (p .code) (field 14 line) ≡ some (p .title)
+  pub title : titlecase (p .code) (field 12 line) (field 14 line) ≡ some (p .title)
 
 -- "Lines that say nothing (no parts, titlecase none or itself ..)"
 abbrev pub saysNothing : Properties → Bool
@@ -48,13 +49,15 @@ saysNothing p = eqb (p .title) (p .code) && eqb (length (p .parts)) 0
 abbrev pub lineCheck : Bool → ℕ → Option Refusal
 lineCheck applies n = check applies n 0 0
 
--- "20 line over 512 octets; 21 not exactly 14 semicolons; 22, 23, 24 field 0, 5, 14 malformed"
+-- "20 line over 512 octets; 21 not exactly 14 semicolons; 22, 23, 24 field 0, 5, 14 malformed", and "29, field 12 malformed,
+-- checked even when 14 is filled, between 23 and 24"
 abbrev pub readingChecks : List ℕ → List (Option Refusal)
 readingChecks line =
     lineCheck (ltb lineMost (length line)) 20
     ∷ lineCheck (not (eqb (length (fields line)) 15)) 21
     ∷ lineCheck (not (there (codePoint (field 0 line)))) 22
     ∷ lineCheck (not (there (decomposition (field 5 line)))) 23
+    ∷ lineCheck (not (optional (field 12 line))) 29
     ∷ lineCheck (not (optional (field 14 line))) 24
     ∷ []
 

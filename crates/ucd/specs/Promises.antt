@@ -3,17 +3,20 @@
 -- Assumes nothing.
 use mathlib.Core.Path.{_≡_}
 use Prim.Native.Nat.{ℕ, suc, _≤_}
-use mathlib.Core.Bool.{cond}
+use mathlib.Core.Bool.{true, false, cond}
 use mathlib.Core.Option.{Option, none, some}
 use mathlib.Core.List.{List, [], _∷_}
 use lib.Dec.{eqb}
 use lib.ListN.{take}
 use Rattle.terms.specs.Refusals.{partsMost, refusal}
+use Rattle.ucd.specs.Fields.{optional, titlecase}
 use Rattle.ucd.specs.Lines.{withParts, lineProperties, readingRefusal}
 use Rattle.ucd.specs.declared.numbers.Number.{Number}
 use Rattle.ucd.specs.declared.numbers.Number.the-variants.{Value, Malformed}
 use Rattle.ucd.specs.declared.numbers.Digit.{Digit}
 use Rattle.ucd.specs.declared.numbers.Digit.the-variants.{Value as Valued, Malformed as Undigit}
+use Rattle.ucd.specs.declared.numbers.Titlecase.{Titlecase}
+use Rattle.ucd.specs.declared.numbers.Titlecase.the-variants.{Value as Cased, MalformedUppercase, MalformedTitlecase}
 use Rattle.ucd.specs.declared.parts.Parts.{Parts}
 use Rattle.ucd.specs.declared.parts.Parts.the-variants.{Count, Malformed as Unlisted}
 use Rattle.ucd.specs.declared.SimpleProperties.{SimpleProperties}
@@ -39,6 +42,17 @@ abbrev pub digitRead : Digit → Option ℕ
 digitRead (Valued v) = some v
 digitRead Undigit = none
 
+-- field 14 is the first of the two that is malformed
+pub record OnlyTitlecaseMalformed (upper title : List ℕ) : Type 0 where
+  pub formed : optional upper ≡ true
+  pub malformed : optional title ≡ false
+
+-- the titlecase that was read, or which field is the first that is malformed
+abbrev pub TitlecaseRead : ℕ → List ℕ → List ℕ → Titlecase → Type 0
+TitlecaseRead c upper title (Cased t) = titlecase c upper title ≡ some (t .0)
+TitlecaseRead c upper title MalformedUppercase = optional upper ≡ false
+TitlecaseRead c upper title MalformedTitlecase = OnlyTitlecaseMalformed upper title
+
 -- ---- parts
 
 -- the parts that were read, which stand at the front of a slice
@@ -58,7 +72,7 @@ pub record Listed (parts : Option (List ℕ)) (r : Parts) (out : List ℕ) : Typ
 
 -- ---- a line
 
--- a line was read, with its parts at the front of a slice: none of 20 to 24 applies, and it gives these properties
+-- a line was read, with its parts at the front of a slice: none of 20 to 24 and 29 applies, and it gives these properties
 pub record LineRead (line out : List ℕ) (s : SimpleProperties) (count : ℕ) : Type 0 where
   pub unrefused : readingRefusal line ≡ none
   pub given : lineProperties line ≡ some (withParts s (take count out))

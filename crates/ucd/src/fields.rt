@@ -43,12 +43,20 @@ pub fn find_field(line: &[u8], k: usize) -> &[u8]
     requires { ⌜ k < length (fields (now line)) ⌝ }
     ensures { λ r. ⌜ now r ≡ field k (now (line .entry)) ⌝ }
 {
+    let rest = from_field(line, k);
+    &rest[..piece_end(rest, 0, SEMICOLON)]
+}
+
+// A line from a field on that it has: a line of the fields that are left.
+pub fn from_field(line: &[u8], k: usize) -> &[u8]
+    requires { ⌜ k < length (fields (now line)) ⌝ }
+    ensures { λ r. ⌜ fields (now r) ≡ drop k (fields (now (line .entry))) ⌝ }
+{
     let mut start = 0;
     let mut i = 0;
     while i < k {
         start = piece_end(line, start, SEMICOLON) + 1;
         i += 1;
     }
-    let end = piece_end(line, start, SEMICOLON);
-    &line[start..end]
+    &line[start..]
 }

@@ -1,5 +1,5 @@
 // Lines of UnicodeData.txt (document 01, "Lines of UnicodeData.txt"; UAX #44 for the fields): the properties that a line
-// gives its code point, or the first of the refusals 20 to 24.
+// gives its code point, or the first of the refusals 20 to 23, 29 and 24.
 //
 // The definitions stand in specs/. Any octets get an answer.
 mod fields;
@@ -7,6 +7,7 @@ mod numbers;
 mod parts;
 
 use crate::numbers::Number;
+use crate::numbers::Titlecase;
 use crate::parts::Parts;
 use terms::CodePoint;
 ghost use Prim.Native.Nat.{_≤_};
@@ -46,9 +47,14 @@ pub fn read_line(line: &[u8], parts: &mut [u32]) -> Reading
     let Parts::Count(count) = listed else {
         return Reading::Refused(terms::REFUSED_FIELD_5);
     };
-    let cased = numbers::read_titlecase(code, fields::find_field(line, 14));
-    let Number::Value(title) = cased else {
-        return Reading::Refused(terms::REFUSED_FIELD_14);
-    };
-    Reading::Read(SimpleProperties { code, title }, count)
+    // Field 14 is sought from field 12 on, so that the fields before are not passed again.
+    let from_12 = fields::from_field(line, 12);
+    let uppercase = fields::find_field(from_12, 0);
+    let titlecase = fields::find_field(from_12, 2);
+    let cased = numbers::read_titlecase(code, uppercase, titlecase);
+    match cased {
+        Titlecase::Value(title) => Reading::Read(SimpleProperties { code, title }, count),
+        Titlecase::MalformedUppercase => Reading::Refused(terms::REFUSED_FIELD_12),
+        Titlecase::MalformedTitlecase => Reading::Refused(terms::REFUSED_FIELD_14),
+    }
 }

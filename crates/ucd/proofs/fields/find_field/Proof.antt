@@ -1,87 +1,46 @@
--- `ucd::fields::find_field` meets its contract. The loop's invariant: a walk stands at the start of field i. The measure is the
--- fields that are left to pass.
+-- `ucd::fields::find_field` meets its contract: the field is the first of those from there on.
 -- Assumes nothing.
-use mathlib.Core.Path.{_≡_, sym}
-use Prim.Native.Nat.{_≤_, _<_, _+_, _-_}
+use mathlib.Core.Path.{_≡_, sym, _∙_, ap}
+use Prim.Native.Nat.{ℕ, _≤_}
+use native.Mathlib.Nat.{add-zero}
 use native.Mathlib.Omega.{arith}
+use mathlib.Core.List.{List}
 use borrow.Author.Needs.{needs}
-use lib.ListN.{length, drop}
-use Rattle.ucd.specs.Fields.{cut}
+use lib.ListN.{length, take}
+use lib.Seq.{length-take-le}
+use Rattle.ucd.specs.Fields.{field}
 use Rattle.ucd.specs.Promises.{pieceEnd}
-use Rattle.ucd.proofs.Cutting.{Stands, stands-first, stands-most, stands-here, stands-inside, stands-more}
+use Rattle.ucd.proofs.Cutting.{pieceEnd-most, stands-first, stands-here, field-left}
 use Rattle.ucd.proofs.fields.find_field.Statement.{statement}
 use Rattle.ucd.proofs.fields.find_field.Tie as tie
 
-abbrev Inv-loop : tie.InvT-loop
-Inv-loop line k start₀ i₀ start i = (i ≤ k) × Stands 0x3B line i start
+-- where the field ends: the line from there on, and that the field is within it
+abbrev rest-of : tie.After-piece-end → List ℕ
+rest-of p = p .before .from-field .result .now
 
-abbrev μ-loop : tie.MeasureT-loop
-μ-loop line k start₀ i₀ start i = k - i
+ends : (p : tie.After-piece-end) → p .piece-end .result ≡ pieceEnd 0x3B (rest-of p)
+ends p = omega (arith, p .piece-end .ensures)
 
--- the first field
-loop-holds : tie.Need-loop-holds Inv-loop μ-loop
-loop-holds c = (search needs, stands-first 0x3B (c .before .args .line .now))
+within : (p : tie.After-piece-end) → p .piece-end .result ≤ length (rest-of p)
+within p = omega (arith, ends p, pieceEnd-most 0x3B (rest-of p))
 
-piece-end-requires : tie.Need-piece-end-requires Inv-loop μ-loop
-piece-end-requires c κs = c .before .loop .inv .1 .within
+from-field-requires : tie.Need-from-field-requires
+from-field-requires c κs = search needs
 
-add-start : tie.Need-add-start Inv-loop μ-loop
-add-start c =
-    omega
-    (arith, c .piece-end .ensures, stands-most (c .before .before .loop .inv .1), c .before .before .before .before .good .0)
+piece-end-requires : tie.Need-piece-end-requires
+piece-end-requires c κs = search needs
 
-add-i : tie.Need-add-i Inv-loop μ-loop
-add-i c = omega (arith, c .before .before .before .before .fits .k)
+slice-aggregate-result : tie.Need-slice-aggregate-result
+slice-aggregate-result c = sym (length-take-le (c .before .piece-end .result) (rest-of (c .before)) (within (c .before)))
 
-loop-less : tie.Need-loop-less Inv-loop μ-loop
-loop-less c = omega arith
-
--- one field further
-loop-again : tie.Need-loop-again Inv-loop μ-loop
-loop-again c =
-    let l = c .before .before in
-    let line = l .before .before .args .line .now in
-    let s = l .loop .inv .1 in
-    let more : l .loop .i + 1 < length (cut 0x3B line) = omega (arith, c .before .loop-test .taken, l .before .before .pre) in
-    (omega (arith, c .before .loop-test .taken), rw (c .piece-end .ensures) (stands-more s (stands-inside s more)))
-
-piece-end-requires-2 : tie.Need-piece-end-requires-2 Inv-loop μ-loop
-piece-end-requires-2 c κs = c .before .loop .inv .1 .within
-
-sub-result : tie.Need-sub-result Inv-loop μ-loop
-sub-result c = omega (arith, c .piece-end2 .ensures)
-
-part-result-start : tie.Need-part-result-start Inv-loop μ-loop
-part-result-start c = omega (arith, c .piece-end2 .ensures)
-
-part-result-end : tie.Need-part-result-end Inv-loop μ-loop
-part-result-end c = omega (arith, c .piece-end2 .ensures, stands-most (c .before .before .loop .inv .1))
-
--- at the field
-returns : tie.Need-returns Inv-loop μ-loop
+returns : tie.Need-returns
 returns c =
-    let l = c .before .before .before in
-    let line = l .before .before .args .line .now in
-    let start = l .loop .start in
-    let wide : c .before .piece-end2 .result - start ≡ pieceEnd 0x3B (drop start line) = omega
-    (arith, c .before .piece-end2 .ensures) in
-    let here : l .loop .i ≡ l .before .before .args .k = omega (arith, l .loop .inv .0, c .before .before .loop-test .left) in
-    rw (wide, ← here) (sym (stands-here (l .loop .inv .1)))
+    let p = c .before in
+    let a = p .before .before .before .args in
+    ap (λ (n : ℕ). take n (rest-of p)) (ends p)
+    ∙ sym (stands-here (stands-first 0x3B (rest-of p)))
+    ∙ field-left (a .line .now) (rest-of p) (a .k) 0 (p .before .from-field .ensures)
+    ∙ ap (λ (n : ℕ). field n (a .line .now)) (add-zero (a .k))
 
 pub find-field-spec : {M : Type 1} → statement M
-find-field-spec =
-    tie.close
-    (tie.spec
-    Inv-loop
-    μ-loop
-    loop-holds
-    piece-end-requires
-    add-start
-    add-i
-    loop-less
-    loop-again
-    piece-end-requires-2
-    sub-result
-    part-result-start
-    part-result-end
-    returns)
+find-field-spec = tie.close (tie.spec from-field-requires piece-end-requires slice-aggregate-result returns)
