@@ -38,7 +38,8 @@ overfull used filled entries pool = ltb entries used || ltb entriesMost used || 
 abbrev pub impossible : LineState → ℕ → ℕ → Bool
 impossible st entries pool = overfull (st .«entries_used») (st .«pool_used») entries pool || ltb 0x110000 (st .next)
 
--- 25: "a line with a mapping has a surrogate in field 0, 5 or 14" (the code points are at most 10FFFF, so no other is not scalar)
+-- 25: "a line with a mapping has a surrogate in field 0, 5 or 14", or in 12 where that is taken (the code points are at most
+-- 10FFFF, so no other is not scalar)
 abbrev pub surrogate : Properties → Bool
 surrogate p = not (saysNothing p) && not (scalar (p .code) && scalar (p .title) && all scalar (p .parts))
 
@@ -60,7 +61,7 @@ abbrev pub givenChecks : LineState → ℕ → ℕ → Option Properties → Lis
 givenChecks st entries pool none = []
 givenChecks st entries pool (some p) = propertiesChecks st entries pool p
 
--- all checks of a line "in this order": 28, 20 to 24, 25 to 27
+-- all checks of a line "in this order": 28, 20 to 23, 29, 24, 25 to 27
 abbrev pub lineChecks : LineState → ℕ → ℕ → List ℕ → List (Option Refusal)
 lineChecks st entries pool line =
     lineCheck (impossible st entries pool) 28
