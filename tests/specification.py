@@ -1,8 +1,9 @@
-"""The map from document 01 to the definitions, docs/SPECIFICATION.md, and the statements of the three demands.
+"""The map from documents 01 and 02 to the definitions, docs/SPECIFICATION.md, and the statements of demands and requests.
 
 - A row of the map names definitions, theorems, edits and tests, each with its file, and they are there.
 - A definition stands in specs/ or src/; what shows a claim stands in proofs/, must-fail/ or tests/.
-- Every file of specs/ is named, and every theorem of crates/demands/proofs, Demand1.antt to Demand3.antt and Document01.antt.
+- Every file of specs/ is named, and every theorem of Demand1.antt to Demand3.antt, Document01.antt and Request01.antt and on, of
+  crates/demands/proofs.
 - The statements of these theorems, and the files of specs/, use nothing that is defined in proofs/.
 - Every edit of crates/*/must-fail is named in docs/CONTRACTS.md.
 
@@ -16,7 +17,10 @@ from pathlib import Path
 MAP = Path("docs/SPECIFICATION.md")
 CONTRACTS = Path("docs/CONTRACTS.md")
 CRATES = Path("crates")
-DEMANDS = [CRATES / "demands" / "proofs" / f"{name}.antt" for name in ("Demand1", "Demand2", "Demand3", "Document01")]
+PROOFS = CRATES / "demands" / "proofs"
+STATED = r"Demand\d|Document01|Request\d\d"
+DEMANDS = [PROOFS / f"{name}.antt" for name in ("Demand1", "Demand2", "Demand3", "Document01")]
+DEMANDS += sorted(PROOFS.glob("Request*.antt"))
 faults = []
 
 
@@ -25,8 +29,8 @@ faults = []
 
 def file_of(cited):
     """The file or folder that a row means by what stands in brackets."""
-    if re.fullmatch(r"Demand\d|Document01", cited):
-        return CRATES / "demands" / "proofs" / f"{cited}.antt"
+    if re.fullmatch(STATED, cited):
+        return PROOFS / f"{cited}.antt"
     return Path(cited) if cited.startswith("tests/") else CRATES / cited
 
 
@@ -49,7 +53,7 @@ def rows():
 def citations(cell):
     """The names of a cell, each with the file in the next brackets."""
     names = []
-    for name, cited in re.findall(r"`([^`]+)`|\((Demand\d|Document01|[\w-]+/[\w./-]+)\)", cell):
+    for name, cited in re.findall(rf"`([^`]+)`|\(({STATED}|[\w-]+/[\w./-]+)\)", cell):
         if name:
             names.append(name)
         else:

@@ -11,7 +11,7 @@ use Prim.Native.Nat.{ℕ, _≤_, _<_}
 use mathlib.Core.Logic.{_↔_, Iff·trans, true-and}
 use mathlib.Core.Option.{Option, none, some}
 use mathlib.Core.List.{List, [], _∷_, _++_, map}
-use lib.ListN.{length}
+use lib.ListN.{length, drop}
 use Rattle.terms.specs.Collations.{collationOf}
 use Rattle.terms.specs.Refusals.{refusal, first, Outcome, refused, checkOutcome}
 use Rattle.terms.specs.declared.Check.{Check}
@@ -39,11 +39,10 @@ use Rattle.builder.proofs.Injective.{lineOutcome-inj}
 use Rattle.builder.proofs.Adding.{addLine-refused}
 use Rattle.demands.specs.Demands.{FirstApplies, tableChecks, callChecks, CollationNumber}
 use Rattle.demands.specs.Faults.{Clear, FirstFault, LowestAt, WrongSize, WrongCode, WrongEntries, WrongNumber}
-use Rattle.demands.specs.Faults.{Impossible, WrongSemicolons, MalformedTitlecase, SaysSurrogate, SaysEarlier}
+use Rattle.demands.specs.Faults.{Impossible, WrongSemicolons, MalformedField, SaysSurrogate, SaysEarlier}
 use Rattle.demands.specs.Faults.{SaysTooMuch, fault3, fault4, fault5, fault6, fault7, fault20, fault21, fault22}
-use Rattle.demands.specs.Faults.{fault23, fault24, fault25, fault26, fault27, fault28, formFaults, tableFaults}
-use Rattle.demands.specs.Faults.{readingFaults}
-use Rattle.demands.specs.Faults.{lineFaults}
+use Rattle.demands.specs.Faults.{fault23, fault25, fault26, fault28, fault29, formFaults}
+use Rattle.demands.specs.Faults.{tableFaults, readingFaults, lineFaults}
 use Rattle.demands.proofs.FaultRows.{row-exactly, row-clear, number-exactly, plain-exactly}
 use Rattle.demands.proofs.TableFaults.{form-renders, table-renders}
 use Rattle.demands.proofs.LineFaults.{line-row, line-clear}
@@ -204,8 +203,8 @@ module _ (b : Built) (line : List ℕ) where
   -- 28 exactly when the state is impossible
   pub number-28 : (lineRefusal b line ≡ some (refusal 28 0 0)) ↔ Impossible b
   number-28 =
-      let rest = readingFaults line ++ fault25 line ∷ fault26 b line ∷ fault27 b line ∷ [] in
-      Iff·trans (line-first 28 0) (Iff·trans (plain-exactly [] 28 (Impossible b) rest refl refl) true-and)
+      Iff·trans (line-first 28 0)
+      (Iff·trans (plain-exactly [] 28 (Impossible b) (drop 1 (lineFaults b line)) refl refl) true-and)
 
   -- 20 exactly when not 28, and the line is over 512 octets
   pub number-20 : (lineRefusal b line ≡ some (refusal 20 0 0))
@@ -213,7 +212,7 @@ module _ (b : Built) (line : List ℕ) where
   number-20 =
       Iff·trans (line-first 20 0)
       (plain-exactly (fault28 b ∷ []) 20 (512 < length line)
-      (fault21 line ∷ fault22 line ∷ fault23 line ∷ fault24 line ∷ fault25 line ∷ fault26 b line ∷ fault27 b line ∷ []) refl refl)
+      (drop 2 (lineFaults b line)) refl refl)
 
   -- 21 exactly when not 28 or 20, and there are not just 14 semicolons
   pub number-21 : (lineRefusal b line ≡ some (refusal 21 0 0))
@@ -221,7 +220,7 @@ module _ (b : Built) (line : List ℕ) where
   number-21 =
       Iff·trans (line-first 21 0)
       (plain-exactly (fault28 b ∷ fault20 line ∷ []) 21 (WrongSemicolons line)
-      (fault22 line ∷ fault23 line ∷ fault24 line ∷ fault25 line ∷ fault26 b line ∷ fault27 b line ∷ []) refl refl)
+      (drop 3 (lineFaults b line)) refl refl)
 
   -- 22 exactly when none before it applies, and field 0 writes no code point
   pub number-22 : (lineRefusal b line ≡ some (refusal 22 0 0))
@@ -229,7 +228,7 @@ module _ (b : Built) (line : List ℕ) where
   number-22 =
       Iff·trans (line-first 22 0)
       (plain-exactly (fault28 b ∷ fault20 line ∷ fault21 line ∷ []) 22 (codePoint (field 0 line) ≡ none)
-      (fault23 line ∷ fault24 line ∷ fault25 line ∷ fault26 b line ∷ fault27 b line ∷ []) refl refl)
+      (drop 4 (lineFaults b line)) refl refl)
 
   -- 23: field 5 is no decomposition
   pub number-23 : (lineRefusal b line ≡ some (refusal 23 0 0))
@@ -237,35 +236,44 @@ module _ (b : Built) (line : List ℕ) where
   number-23 =
       Iff·trans (line-first 23 0)
       (plain-exactly (fault28 b ∷ fault20 line ∷ fault21 line ∷ fault22 line ∷ []) 23 (decomposition (field 5 line) ≡ none)
-      (fault24 line ∷ fault25 line ∷ fault26 b line ∷ fault27 b line ∷ []) refl refl)
+      (drop 5 (lineFaults b line)) refl refl)
+
+  -- 29: field 12 is neither empty nor a code point, whatever field 14 has
+  pub number-29 : (lineRefusal b line ≡ some (refusal 29 0 0))
+      ↔ (Clear (fault28 b ∷ fault20 line ∷ fault21 line ∷ fault22 line ∷ fault23 line ∷ []) × MalformedField 12 line)
+  number-29 =
+      Iff·trans (line-first 29 0)
+      (plain-exactly (fault28 b ∷ fault20 line ∷ fault21 line ∷ fault22 line ∷ fault23 line ∷ []) 29 (MalformedField 12 line)
+      (drop 6 (lineFaults b line)) refl refl)
 
   -- 24: field 14 is neither empty nor a code point
   pub number-24 : (lineRefusal b line ≡ some (refusal 24 0 0))
-      ↔ (Clear (fault28 b ∷ fault20 line ∷ fault21 line ∷ fault22 line ∷ fault23 line ∷ []) × MalformedTitlecase line)
+      ↔ (Clear (fault28 b ∷ fault20 line ∷ fault21 line ∷ fault22 line ∷ fault23 line ∷ fault29 line ∷ [])
+      × MalformedField 14 line)
   number-24 =
+      let before = fault28 b ∷ fault20 line ∷ fault21 line ∷ fault22 line ∷ fault23 line ∷ fault29 line ∷ [] in
       Iff·trans (line-first 24 0)
-      (plain-exactly (fault28 b ∷ fault20 line ∷ fault21 line ∷ fault22 line ∷ fault23 line ∷ []) 24 (MalformedTitlecase line)
-      (fault25 line ∷ fault26 b line ∷ fault27 b line ∷ []) refl refl)
+      (plain-exactly before 24 (MalformedField 14 line) (drop 7 (lineFaults b line)) refl refl)
 
   -- 25: the line has a mapping, and one of the code points that it says is a surrogate
   pub number-25 : (lineRefusal b line ≡ some (refusal 25 0 0)) ↔ (Clear (fault28 b ∷ readingFaults line) × SaysSurrogate line)
   number-25 =
       Iff·trans (line-first 25 0)
-      (plain-exactly (fault28 b ∷ readingFaults line) 25 (SaysSurrogate line) (fault26 b line ∷ fault27 b line ∷ []) refl refl)
+      (plain-exactly (fault28 b ∷ readingFaults line) 25 (SaysSurrogate line) (drop 8 (lineFaults b line)) refl refl)
 
   -- 26: the code point that it says is not above the last
   pub number-26 : (lineRefusal b line ≡ some (refusal 26 0 0))
       ↔ (Clear (fault28 b ∷ readingFaults line ++ fault25 line ∷ []) × SaysEarlier b line)
   number-26 =
       let before = fault28 b ∷ readingFaults line ++ fault25 line ∷ [] in
-      Iff·trans (line-first 26 0) (plain-exactly before 26 (SaysEarlier b line) (fault27 b line ∷ []) refl refl)
+      Iff·trans (line-first 26 0) (plain-exactly before 26 (SaysEarlier b line) (drop 9 (lineFaults b line)) refl refl)
 
   -- 27: it has a mapping, and there is no room or a limit is passed
   pub number-27 : (lineRefusal b line ≡ some (refusal 27 0 0))
       ↔ (Clear (fault28 b ∷ readingFaults line ++ fault25 line ∷ fault26 b line ∷ []) × SaysTooMuch b line)
   number-27 =
       let before = fault28 b ∷ readingFaults line ++ fault25 line ∷ fault26 b line ∷ [] in
-      Iff·trans (line-first 27 0) (plain-exactly before 27 (SaysTooMuch b line) [] refl refl)
+      Iff·trans (line-first 27 0) (plain-exactly before 27 (SaysTooMuch b line) (drop 10 (lineFaults b line)) refl refl)
 
 -- ---- "and then no lent buffer changes."
 

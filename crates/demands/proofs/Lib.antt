@@ -14,4 +14,5 @@ pub mod Demand2
 pub mod Demand3
 pub mod Contracts
 pub mod Document01
+pub mod Request01
 pub mod ContractsC

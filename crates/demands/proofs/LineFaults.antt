@@ -1,4 +1,4 @@
--- The checks of a line render its faults: 28 and 20 to 27 in words.
+-- The checks of a line render its faults: 28, 20 to 27 and 29 in words.
 -- Assumes nothing.
 use mathlib.Core.Path.{_≡_, refl, sym, ap, _∙_}
 use Prim.Native.Nat.{ℕ, _+_, _≤_}
@@ -20,10 +20,11 @@ use Rattle.table.specs.Layout.{entryCount}
 use Rattle.table.specs.Table.{Table}
 use Rattle.ucd.specs.Fields.{fields, field, codePoint, decomposition, optional}
 use Rattle.ucd.specs.Lines.{Properties, LineSays, lineProperties, saysNothing, lineCheck, readingChecks}
+use Rattle.ucd.specs.Lines.{readingRefusal}
 use Rattle.ucd.proofs.Cutting.{length-cut}
-use Rattle.ucd.proofs.Lines.{lineProperties-exactly, says-most}
+use Rattle.ucd.proofs.Lines.{lineProperties-read, lineProperties-exactly, says-most}
 use Rattle.builder.specs.Builder.{Built, overfull, impossible, surrogate, crowded, givenChecks, lineRefusal}
-use Rattle.demands.specs.Faults.{plain, Surrogate, TooMany, Impossible, WrongSemicolons, MalformedTitlecase, HasMapping}
+use Rattle.demands.specs.Faults.{plain, Surrogate, TooMany, Impossible, WrongSemicolons, MalformedField, HasMapping}
 use Rattle.demands.specs.Faults.{SaysSurrogate, SaysEarlier, SaysTooMuch, FirstFault, Clear, readingFaults, lineFaults}
 use Rattle.demands.specs.Faults.{fault25, fault26, fault27, fault28}
 use Rattle.demands.proofs.Reflect.{ltb-exactly, eqb-exactly, and-exactly, or-exactly, or4-exactly, not-exactly}
@@ -31,7 +32,7 @@ use Rattle.demands.proofs.Reflect.{false-exactly, gone-exactly, empty-e
 use Rattle.demands.proofs.FaultRows.{Renders, RendersEach, renders-plain, renders-append, row-exactly, row-clear}
 use Rattle.demands.proofs.TableFaults.{scalar-exactly}
 
--- ---- 28, 20 to 24
+-- ---- 28, 20 to 24 and 29
 
 -- so many are too many
 many-exactly : (t : Table) (used filled : ℕ)
@@ -58,10 +59,10 @@ fields-exactly line =
       λ f. h .1 (λ e. f (omega (arith, length-cut 0x3B line, e))),
     )
 
--- field 14 is malformed
-titlecase-exactly : (line : List ℕ) → (not (optional (field 14 line)) ≡ true) ↔ MalformedTitlecase line
-titlecase-exactly line =
-    let os = field 14 line in
+-- a field that may be empty is malformed
+optional-exactly : (i : ℕ) (line : List ℕ) → (not (optional (field i line)) ≡ true) ↔ MalformedField i line
+optional-exactly i line =
+    let os = field i line in
     let h = or-exactly (empty os) (there (codePoint os)) (empty-exactly os) (λ e. e, λ e. e) in
     let gone = gone-exactly (codePoint os) in
     let no = not-exactly (optional os) h in (
@@ -73,7 +74,7 @@ titlecase-exactly line =
     go true f = absurd (f refl)
     go false f = refl
 
-    neither : MalformedTitlecase line → ((field 14 line ≡ []) ⊎ (there (codePoint (field 14 line)) ≡ true)) → ⊥
+    neither : MalformedField i line → ((field i line ≡ []) ⊎ (there (codePoint (field i line)) ≡ true)) → ⊥
     neither p (inl e) = p .0 e
     neither p (inr e) = true≢false (sym e ∙ ap there (p .1))
 
@@ -84,8 +85,17 @@ reading-renders line =
     let cut = renders-plain _ 21 (fields-exactly line) in
     let code = renders-plain _ 22 (gone-exactly (codePoint (field 0 line))) in
     let parts = renders-plain _ 23 (gone-exactly (decomposition (field 5 line))) in
-    let title = renders-plain _ 24 (titlecase-exactly line) in
-    (long, (cut, (code, (parts, (title, tt)))))
+    let upper = renders-plain _ 29 (optional-exactly 12 line) in
+    let title = renders-plain _ 24 (optional-exactly 14 line) in
+    (long, (cut, (code, (parts, (upper, (title, tt))))))
+
+-- so a line to which none of them applies says something
+pub reading-says : (line : List ℕ) → Clear (readingFaults line) → (p : Properties) × LineSays line p
+unfolding readingRefusal
+reading-says line clear =
+    let passed = row-clear (readingChecks line) (readingFaults line) (reading-renders line) .1 clear in
+    let given = lineProperties-read line passed in
+    (given .0, lineProperties-exactly line (given .0) .0 (given .1))
 
 -- ---- 25 to 27
 
@@ -256,7 +266,7 @@ module _ (b : Built) (line : List ℕ) where
       ∙ rw (first-given (lineProperties line))
       (sym (first-append head (given-row (lineProperties line))))
 
-  -- a line's refusal is the first of 28, 20 to 27 that applies
+  -- a line's refusal is the first of 28, 20 to 23, 29, 24 to 27 that applies
   pub line-row : (k d : ℕ) → (lineRefusal b line ≡ some (refusal k 0 d)) ↔ FirstFault (lineFaults b line) k d
   line-row k d = rw row-refusal (row-exactly row (lineFaults b line) row-renders k d)
 

@@ -1,6 +1,6 @@
 -- Refusals in words: a row of faults, each with its number and the detail with which it applies, and the first that does. The
--- rows of a table (3 to 7) and of a line (28, 20 to 27), each sentence of document 01 as a type that a reader can hold beside
--- the paper's.
+-- rows of a table (3 to 7) and of a line (28, 20 to 27 and 29), each sentence of the papers as a type that a reader can hold
+-- beside it.
 -- Assumes nothing.
 use mathlib.Core.Path.{_≡_}
 use Prim.Native.Nat.{ℕ, suc, _+_, _%_, _≤_, _<_}
@@ -135,21 +135,28 @@ Impossible b = TooMany (b .table) (b .state .«entries_used») (b .state .«pool
 abbrev pub WrongSemicolons : List ℕ → Type 0
 WrongSemicolons line = semicolons line ≡ 14 → ⊥
 
--- 24: field 14 is not empty, and writes no code point
-abbrev pub MalformedTitlecase : List ℕ → Type 0
-MalformedTitlecase line = (field 14 line ≡ [] → ⊥) × (codePoint (field 14 line) ≡ none)
+-- 29 of field 12, 24 of field 14: a field that may be empty is not, and writes no code point
+abbrev pub MalformedField : ℕ → List ℕ → Type 0
+MalformedField i line = (field i line ≡ [] → ⊥) × (codePoint (field i line) ≡ none)
 
 -- "a line with a mapping": not one of those "that say nothing (no parts, titlecase none or itself)"
 abbrev pub HasMapping : Properties → Type 0
 HasMapping p = (p .title ≡ p .code) × (p .parts ≡ []) → ⊥
 
--- 25: "a line with a mapping has a surrogate in field 0, 5 or 14"
+-- 25: "a line with a mapping has a surrogate in field 0, 5 or 14", or in 12 where that is taken
 pub record SaysSurrogate (line : List ℕ) : Type 0 where
   pub said : Properties
   pub says : LineSays line said
   pub mapping : HasMapping said
   pub code : ℕ
   pub among : In code (said .code ∷ said .title ∷ said .parts)
+  pub surrogate : Surrogate code
+
+-- the same of a code point, the titlecase that is taken for it and its parts
+pub record MapsSurrogate (c t : ℕ) (ps : List ℕ) : Type 0 where
+  pub mapping : (t ≡ c) × (ps ≡ []) → ⊥
+  pub code : ℕ
+  pub among : In code (c ∷ t ∷ ps)
   pub surrogate : Surrogate code
 
 -- 26: "code point not above the last"
@@ -165,7 +172,7 @@ pub record SaysTooMuch (b : Built) (line : List ℕ) : Type 0 where
   pub mapping : HasMapping said
   pub crowded : TooMany (b .table) (b .state .«entries_used» + 1) (b .state .«pool_used» + length (said .parts))
 
--- 28, 20 to 27
+-- 28, 20 to 27 and 29
 abbrev pub fault28 : Built → Fault
 fault28 b = plain 28 (Impossible b)
 
@@ -183,8 +190,12 @@ fault22 line = plain 22 (codePoint (field 0 line) ≡ none)
 abbrev pub fault23 : List ℕ → Fault
 fault23 line = plain 23 (decomposition (field 5 line) ≡ none)
 
+-- "29, field 12 malformed, checked even when 14 is filled"
+abbrev pub fault29 : List ℕ → Fault
+fault29 line = plain 29 (MalformedField 12 line)
+
 abbrev pub fault24 : List ℕ → Fault
-fault24 line = plain 24 (MalformedTitlecase line)
+fault24 line = plain 24 (MalformedField 14 line)
 
 abbrev pub fault25 : List ℕ → Fault
 fault25 line = plain 25 (SaysSurrogate line)
@@ -195,9 +206,9 @@ fault26 b line = plain 26 (SaysEarlier b line)
 abbrev pub fault27 : Built → List ℕ → Fault
 fault27 b line = plain 27 (SaysTooMuch b line)
 
--- 20 to 24, of the line alone
+-- 20 to 24, of the line alone, with 29 "between 23 and 24"
 abbrev pub readingFaults : List ℕ → List Fault
-readingFaults line = fault20 line ∷ fault21 line ∷ fault22 line ∷ fault23 line ∷ fault24 line ∷ []
+readingFaults line = fault20 line ∷ fault21 line ∷ fault22 line ∷ fault23 line ∷ fault29 line ∷ fault24 line ∷ []
 
 -- the whole row of a line: "In this order .."
 abbrev pub lineFaults : Built → List ℕ → List Fault
