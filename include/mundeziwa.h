@@ -71,8 +71,9 @@ extern "C" {
 #define MZ_REFUSED_FIELD_COUNT 21 /* not exactly 14 semicolons */
 #define MZ_REFUSED_FIELD_0 22     /* field 0, the code point, is malformed */
 #define MZ_REFUSED_FIELD_5 23     /* field 5, the decomposition, is malformed */
+#define MZ_REFUSED_FIELD_12 29    /* field 12, the uppercase, is malformed, whatever field 14 has */
 #define MZ_REFUSED_FIELD_14 24    /* field 14, the titlecase, is malformed */
-#define MZ_REFUSED_SURROGATE 25   /* a mapping with a surrogate in field 0, 5 or 14 */
+#define MZ_REFUSED_SURROGATE 25   /* a mapping with a surrogate in field 0 or 5 or as the titlecase that is taken */
 #define MZ_REFUSED_ORDER 26       /* the code point is not above the last */
 #define MZ_REFUSED_NO_ROOM 27     /* no room for the entry or its parts, or a limit of a table passed */
 
@@ -134,9 +135,11 @@ void mz_substring(uint32_t collation,
 /* Adds one line of UnicodeData.txt, without its line end, to a table that is being built. The state is three numbers, all 0 at
  * first: entries used, pool numbers used, and one more than the last code point. The table so far is the first
  * MZ_ENTRY_WIDTH * entries_used numbers of entries and the first pool_used numbers of pool. A line with a mapping appends one
- * entry and its parts; any other line only moves the third number.
+ * entry and its parts; any other line only moves the third number. The titlecase is field 14's, field 12's where 14 is empty,
+ * and none where both are.
  * answer: number, place (0), detail (0); the state afterwards: entries used, pool used, next. ON A REFUSAL THE LAST THREE ARE
- * THE STATE THAT CAME IN, not 0. Refusals 28, then 20 to 27. A built table passes checks 3 to 6; mz_check_table decides 7. */
+ * THE STATE THAT CAME IN, not 0. Refusals 28, 20 to 23, 29, 24 to 27. A built table passes checks 3 to 6; mz_check_table
+ * decides 7. */
 void mz_add_line(uint64_t entries_used, uint64_t pool_used, uint64_t next,
                  const uint8_t *line, size_t line_length,
                  uint32_t *entries, size_t entries_length,

@@ -51,12 +51,15 @@ impl TableBuilder {
 
     /// Adds one line, without its line end. On a refusal the builder stays as it was.
     ///
-    /// Refusals 20 to 27.
+    /// Refusals 20 to 23, 29, 24 to 27. The titlecase is field 14's, field 12's where 14 is empty, and none where both are.
     ///
     /// ```
     /// let mut builder = mundeziwa::TableBuilder::new();
     /// builder.line("0061;LATIN SMALL LETTER A;Ll;0;L;;;;;N;;;0041;;0041")?;
     /// assert_eq!(builder.line(b"0061;;;;;;;;;;;;;;").unwrap_err().name(), "order of lines");
+    /// builder.line("0062;LATIN SMALL LETTER B;Ll;0;L;;;;;N;;;0042;;")?;
+    /// assert_eq!(builder.entries()[4..], [0x62, 0x42, 0, 0]);
+    /// assert_eq!(builder.line("0063;LATIN SMALL LETTER C;Ll;0;L;;;;;N;;;43;;0043").unwrap_err().number(), 29);
     /// # Ok::<(), mundeziwa::Refusal>(())
     /// ```
     pub fn line(&mut self, line: impl AsRef<[u8]>) -> Result<(), Refusal> {

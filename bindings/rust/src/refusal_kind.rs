@@ -93,9 +93,11 @@ refusal_kinds! {
     Field0 = 22, "field 0";
     /// Field 5, the decomposition, is malformed.
     Field5 = 23, "field 5";
+    /// Field 12, the uppercase, is malformed, whatever field 14 has.
+    Field12 = 29, "field 12";
     /// Field 14, the titlecase, is malformed.
     Field14 = 24, "field 14";
-    /// A data line with a mapping has a surrogate in field 0, 5 or 14.
+    /// A data line with a mapping has a surrogate in field 0 or 5, or as the titlecase that is taken.
     Surrogate = 25, "surrogate";
     /// A data line's code point is not above that of the line before.
     LineOrder = 26, "order of lines";
