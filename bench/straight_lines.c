@@ -101,7 +101,8 @@ static bool add_line(struct state *state, struct text line, struct table_room ro
     int count = read_parts(field(line, &fields, 5), parts);
     if (count < 0) return false;
     title = c;
-    struct text titlecase = field(line, &fields, 14);
+    struct text uppercase = field(line, &fields, 12), titlecase = field(line, &fields, 14);
+    if (uppercase.length > 0 && !is_code_point(uppercase, &title)) return false;
     if (titlecase.length > 0 && !is_code_point(titlecase, &title)) return false;
     if (count > 0 || title != c) {
         if (!add_mapping(state, room, c, title, parts, (size_t)count)) return false;

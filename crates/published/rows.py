@@ -60,10 +60,10 @@ fn row_of(page: u32) -> u64 {{
 
 
 def coded(lines):
-    """The code points that have an entry: another titlecase (field 14) or a decomposition (field 5)."""
+    """The code points that have an entry: another titlecase (field 14, or 12 where it is empty) or a decomposition (field 5)."""
     for line in lines:
         fields = line.rstrip("\n").split(";")
-        title, decomposition = fields[14], fields[5]
+        title, decomposition = fields[14] or fields[12], fields[5]
         if decomposition or title not in ("", fields[0]):
             yield int(fields[0], 16)
 
