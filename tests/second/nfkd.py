@@ -1,10 +1,10 @@
 """NFKD of the simple titlecase of every code point, for the comparison with the second program (part 2).
 
 Usage: nfkd.py UnicodeData.txt > FILE. Each line is a code point and the octets of its key in hex; the last says how many there
-were. The titlecase is field 14 of UnicodeData.txt, since Python's str.title() has the full casing that RFC 5051 doesn't use. NFKD
-is Python's own: of a single code point it is the decomposition that RFC 5051 takes, since no single one has marks out of order.
-Left out: Hangul syllables, whose decomposition isn't in UnicodeData.txt, and code points that either the file or Python's edition
-of Unicode has not assigned.
+were. The titlecase is field 14 of UnicodeData.txt, or field 12 where that is empty, since Python's str.title() has the full
+casing that RFC 5051 doesn't use. NFKD is Python's own: of a single code point it is the decomposition that RFC 5051 takes, since
+no single one has marks out of order. Left out: Hangul syllables, whose decomposition isn't in UnicodeData.txt, and code points
+that either the file or Python's edition of Unicode has not assigned.
 """
 
 import sys
@@ -15,7 +15,7 @@ SURROGATES = range(0xD800, 0xE000)
 
 
 def read(path):
-    """The code points that the file assigns, ranges filled in, and field 14 by code point where it isn't empty."""
+    """The code points that the file assigns, ranges filled in, and the titlecases by code point."""
     assigned, titlecases = set(), {}
     first = None
     with open(path, encoding="ascii") as lines:
@@ -27,8 +27,9 @@ def read(path):
             if fields[1].endswith(", Last>"):
                 assigned.update(range(first, code_point))
             assigned.add(code_point)
-            if fields[14]:
-                titlecases[code_point] = int(fields[14], 16)
+            titlecase = fields[14] or fields[12]
+            if titlecase:
+                titlecases[code_point] = int(titlecase, 16)
     return assigned, titlecases
 
 

@@ -17,6 +17,7 @@ pub struct State {
 struct Line {
     code_point: u32,
     parts: Vec<u32>,
+    /// The titlecase that is taken: field 14, or field 12 where that is empty.
     titlecase: Option<u32>,
 }
 
@@ -43,7 +44,7 @@ pub fn add_line(state: State, line: &[u8], entries: &mut [u32], pool: &mut [u32]
     [number, 0, 0, after.entries_used, after.pool_used, after.next]
 }
 
-/// The checks in the paper's order, 28 and then 20 to 27, and then the entry.
+/// The checks in the paper's order, 28 and then 20 to 27 with 29 between 23 and 24, and then the entry.
 fn try_line(state: State, line: &[u8], entries: &mut [u32], pool: &mut [u32]) -> Result<State, u64> {
     if is_impossible(state, entries.len(), pool.len()) {
         return Err(28);
@@ -77,7 +78,8 @@ fn is_impossible(state: State, entries_length: usize, pool_length: usize) -> boo
     over_slices || over_limits || state.next > 0x110000
 }
 
-/// 21 to 24: the line's fields 0, 5 and 14. The others are not looked at.
+/// 21 to 24, and 29 "even when 14 is filled, between 23 and 24": the line's fields 0, 5, 12 and 14. The others are not looked at.
+/// "An empty titlecase means the simple uppercase, field 12. Take field 12 then."
 fn read_line(line: &[u8]) -> Result<Line, u64> {
     let fields: Vec<&[u8]> = line.split(|&octet| octet == b';').collect();
     if fields.len() != 15 {
@@ -85,11 +87,17 @@ fn read_line(line: &[u8]) -> Result<Line, u64> {
     }
     let code_point = read_code_point(fields[0]).ok_or(22_u64)?;
     let parts = read_decomposition(fields[5]).ok_or(23_u64)?;
-    let titlecase = match fields[14] {
-        [] => None,
-        last => Some(read_code_point(last).ok_or(24_u64)?),
-    };
-    Ok(Line { code_point, parts, titlecase })
+    let uppercase = read_optional(fields[12], 29)?;
+    let titlecase = read_optional(fields[14], 24)?;
+    Ok(Line { code_point, parts, titlecase: titlecase.or(uppercase) })
+}
+
+/// A field that is empty or one code point; the refusal if it is malformed.
+fn read_optional(field: &[u8], refusal: u64) -> Result<Option<u32>, u64> {
+    match field {
+        [] => Ok(None),
+        digits => read_code_point(digits).map(Some).ok_or(refusal),
+    }
 }
 
 /// "Code points have 4 to 6 digits, 0-9 and A-F, at most 10FFFF, with no leading zero past four digits."
