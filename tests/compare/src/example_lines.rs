@@ -1,11 +1,15 @@
 //! Part 1, the builder: the table that a few lines leave, and each refusal.
+//! `STATE` and slices of 11 and 3 numbers have room for one more entry and two more pool numbers.
 
 use crate::building::Building;
 use crate::examples::expect;
 use second::unicode_data::State;
 
+/// A state that some lines have left, the last of them for 0041.
+pub const STATE: State = State { entries_used: 1, pool_used: 1, next: 0x42 };
+
 pub fn run() -> Result<u64, String> {
-    Ok(built_table()? + lines()? + states()?)
+    Ok(built_table()? + lines()? + order_of_29()? + states()?)
 }
 
 /// The lines for 0061, 00C9 and 00E9 leave just these numbers, and nothing else of the slices changes.
@@ -33,12 +37,10 @@ fn built_table() -> Result<u64, String> {
     Ok(lines.len() as u64)
 }
 
-/// One line for each refusal of the builder, and lines next to them that are accepted. The state is 1, 1, 0042 and there is room
-/// for one more entry and two more pool numbers.
+/// One line for each refusal of the builder, and lines next to them that are accepted.
 fn lines() -> Result<u64, String> {
-    const STATE: State = State { entries_used: 1, pool_used: 1, next: 0x42 };
     let tail = ";;;;;;;;;";
-    let lines: [(String, u64); 24] = [
+    expect_numbers(&[
         (format!("0042;;;;;{tail}0041"), 0),
         (format!("0042;{};;;;{tail}0041", "N".repeat(512 - 22)), 0),
         (format!("0042;{};;;;{tail}0041", "N".repeat(513 - 22)), 20),
@@ -63,8 +65,38 @@ fn lines() -> Result<u64, String> {
         (format!("0041;;;;;{tail}0042"), 26),
         (format!("0041;;;;;{tail}"), 26),
         (format!("0041;;;;;{tail}D800"), 25),
-    ];
-    for (line, number) in &lines {
+    ])
+}
+
+/// 29 comes "between 23 and 24" and is looked for "even when 14 is filled", and where the line says nothing otherwise.
+fn order_of_29() -> Result<u64, String> {
+    let over = format!("0042;{};;;;;;;;;;;004a;;", "N".repeat(513 - 22));
+    let no_room = format!("0042;;;;;{};;;;;;;004a;;", ["0041"; 32].join(" "));
+    expect_numbers(&[
+        (over.as_str(), 20),
+        ("0042;;;;;;;;;;;;004a;", 21),
+        ("042;;;;;;;;;;;;004a;;", 22),
+        ("0042;;;;;0041  0042;;;;;;;004a;;", 23),
+        ("0042;;;;;;;;;;;;004a;;004a", 29),
+        ("0042;;;;;;;;;;;;004a;;D800", 29),
+        ("D800;;;;;;;;;;;;004a;;0041", 29),
+        ("0041;;;;;;;;;;;;004a;;0043", 29),
+        (&no_room, 29),
+        ("0042;;;;;;;;;;;;004a;;0041", 29),
+        ("0042;;;;;;;;;;;;004a;;0042", 29),
+        ("0042;;;;;;;;;;;;004a;;", 29),
+        // Beside them: a field 12 that is no fault, and one that is taken.
+        ("0042;;;;;;;;;;;;D800;;004a", 24),
+        ("0041;;;;;;;;;;;;D800;;0043", 26),
+        ("0041;;;;;;;;;;;;D800;;", 25),
+        ("0041;;;;;;;;;;;;0043;;", 26),
+    ])
+}
+
+/// Lines and the number that each is answered.
+fn expect_numbers<L: AsRef<str>>(lines: &[(L, u64)]) -> Result<u64, String> {
+    for (line, number) in lines {
+        let line = line.as_ref();
         let mut building = Building::new(11, 3);
         expect(line, building.add_line(STATE, line.as_bytes())?[0], *number)?;
         building.compare_slices()?;
@@ -75,10 +107,14 @@ fn lines() -> Result<u64, String> {
 /// States that no line can have left, those just before them, and the last room there is.
 fn states() -> Result<u64, String> {
     let (silent, mapped) = (format!("10FFFF;;;;;{0}", ";".repeat(9)), format!("10FFFF;;;;;{0}0041", ";".repeat(9)));
-    let states: [(&str, [usize; 2], [u64; 3], u64); 10] = [
+    let (raised, faulty) = ("10FFFF;;;;;;;;;;;;0041;;", "10FFFF;;;;;;;;;;;;004a;;");
+    let states: [(&str, [usize; 2], [u64; 3], u64); 13] = [
         (&silent, [11, 3], [2, 3, 0x10FFFF], 0),
         (&mapped, [11, 3], [2, 3, 0x10FFFF], 27),
         (&mapped, [11, 3], [1, 3, 0x10FFFF], 0),
+        (raised, [11, 3], [2, 3, 0x10FFFF], 27),
+        (raised, [11, 3], [1, 3, 0x10FFFF], 0),
+        (faulty, [11, 3], [3, 0, 0], 28),
         (&silent, [11, 3], [3, 0, 0], 28),
         (&silent, [11, 3], [0, 4, 0], 28),
         (&silent, [11, 3], [2, 3, 0x110000], 26),
@@ -91,7 +127,7 @@ fn states() -> Result<u64, String> {
         let mut building = Building::new(entries_length, pool_length);
         let answer = building.add_line(State { entries_used, pool_used, next }, line.as_bytes())?;
         let after = match number {
-            0 => [entries_used + (line == mapped) as u64, pool_used, 0x110000],
+            0 => [entries_used + (line != silent) as u64, pool_used, 0x110000],
             _ => [entries_used, pool_used, next],
         };
         expect("a state", answer, [number, 0, 0, after[0], after[1], after[2]])?;

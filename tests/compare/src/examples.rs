@@ -1,10 +1,10 @@
-//! Part 1: the checked examples of document 01. What stands here is what the paper says; both programs must answer it.
+//! Part 1: the checked examples of document 01. What stands here is what the papers say; both programs must answer it.
 
 use crate::both::{pattern, Case, Table};
 use crate::made::lay_out;
 use crate::settings::Settings;
 use crate::stop::Stop;
-use crate::{example_lines, example_tables};
+use crate::{example_lines, example_tables, example_titlecases};
 
 /// Table T as code point / titlecase / decomposition.
 pub const T: [(u32, Option<u32>, &[u32]); 12] = [
@@ -39,7 +39,8 @@ pub fn run(_: &Settings) -> Result<u64, Stop> {
     examples.lengths()?;
     examples.buffers()?;
     examples.other_collations()?;
-    Ok(examples.cases + marks()? + invalid_text()? + example_tables::run()? + example_lines::run()?)
+    let cases = examples.cases + marks()? + invalid_text()?;
+    Ok(cases + example_tables::run()? + example_lines::run()? + example_titlecases::run()?)
 }
 
 /// Table T in both programs.
@@ -53,12 +54,12 @@ pub fn table_of(mappings: &[(u32, Option<u32>, &[u32])]) -> Result<Table, String
     Table::new(entries, pool)
 }
 
-/// Fails with both values where an answer isn't the paper's.
-pub fn expect<T: PartialEq + std::fmt::Debug>(what: &str, answer: T, paper: T) -> Result<(), String> {
-    if answer == paper {
+/// Fails with both values where an answer isn't the papers'.
+pub fn expect<T: PartialEq + std::fmt::Debug>(what: &str, answer: T, papers: T) -> Result<(), String> {
+    if answer == papers {
         return Ok(());
     }
-    Err(format!("{what}: both programs answer {answer:?}, document 01 says {paper:?}"))
+    Err(format!("{what}: both programs answer {answer:?}, the papers say {papers:?}"))
 }
 
 impl Examples {

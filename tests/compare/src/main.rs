@@ -14,6 +14,7 @@ mod building;
 mod cases;
 mod example_lines;
 mod example_tables;
+mod example_titlecases;
 mod examples;
 mod faults;
 mod hex;
