@@ -78,7 +78,7 @@ fn one_file(random: &mut Random, tally: &mut Tally, published: &Published) -> Re
     let mut state = State::default();
     let mut at = random.below(published.mapped.len());
     for _ in 0..random.between(1, 60) {
-        let mut line = published.lines[published.mapped[at % published.mapped.len()]].to_vec();
+        let mut line = published.line(random, published.mapped[at % published.mapped.len()]);
         if random.one_in(6) {
             lines::change(random, &mut line);
         }
@@ -104,7 +104,7 @@ impl Tally {
         println!("  answers to lines: {}", Tally::list(&self.lines));
         println!("  matches: {}, of them with another place in the text than in the key: {}", self.matches, self.runs);
         let calls = (0..=8).filter(|number| !self.calls.contains_key(number));
-        let lines = std::iter::once(0).chain(20..=28).filter(|number| !self.lines.contains_key(number));
+        let lines = std::iter::once(0).chain(20..=29).filter(|number| !self.lines.contains_key(number));
         let missing: Vec<u64> = calls.chain(lines).collect();
         if cases >= ENOUGH && (!missing.is_empty() || self.runs == 0) {
             return Err(Stop::Error(format!("answers that never came: {missing:?}")));

@@ -3,7 +3,7 @@
 use crate::random::Random;
 use second::unicode_data::State;
 
-/// What may stand in field 0 or 14, well formed or not.
+/// What may stand in field 0, 12 or 14, well formed or not.
 const CODE_POINTS: [&str; 30] = [
     "0041", "041", "41", "00041", "000041", "010000", "10000", "10FFFF", "110000", "0FFFF", "FFFFF", "D7FF", "D800", "DBFF",
     "DFFF", "E000", "00e9", "00G1", "0041 ", " 0041", "1000000", "FFFFFF", "FFFFFFFF", "+041", "0x41", "004:", "00@1", "0000",
@@ -55,7 +55,7 @@ pub struct Published<'a> {
 impl<'a> Published<'a> {
     pub fn new(lines: Vec<&'a [u8]>) -> Published<'a> {
         let has_mapping = |line: &[u8]| {
-            let fields: Vec<&[u8]> = line.split(|&octet| octet == b';').collect();
+            let fields = fields_of(line);
             fields.len() == 15 && (!fields[5].is_empty() || !fields[14].is_empty())
         };
         let mapped = (0..lines.len()).filter(|&index| has_mapping(lines[index])).collect();
@@ -65,8 +65,29 @@ impl<'a> Published<'a> {
     /// A published line, more often than not one with a mapping.
     fn pick(&self, random: &mut Random) -> Vec<u8> {
         let index = if random.one_in(4) { random.below(self.lines.len()) } else { random.pick(&self.mapped) };
-        self.lines[index].to_vec()
+        self.line(random, index)
     }
+
+    /// The line of that index, one time in two as a partner writes it.
+    pub fn line(&self, random: &mut Random, index: usize) -> Vec<u8> {
+        let line = self.lines[index];
+        let partner = if random.one_in(2) { emptied(line) } else { None };
+        partner.unwrap_or(line.to_vec())
+    }
+}
+
+fn fields_of(line: &[u8]) -> Vec<&[u8]> {
+    line.split(|&octet| octet == b';').collect()
+}
+
+/// The line as a partner writes it, with field 14 empty, if that equals field 12, the uppercase.
+pub fn emptied(line: &[u8]) -> Option<Vec<u8>> {
+    let mut fields = fields_of(line);
+    if fields.len() != 15 || fields[14].is_empty() || fields[14] != fields[12] {
+        return None;
+    }
+    fields[14] = b"";
+    Some(fields.join(&b';'))
 }
 
 /// A line: published or made, and changed in up to three places.
@@ -88,8 +109,9 @@ fn made(random: &mut Random) -> Vec<u8> {
         2 => parts(random.between(30, 32)),
         _ => format!("<compat> {}", parts(random.between(1, 32))),
     };
+    let uppercase = random.pick(&["", "0042", "DFFF", "10FFFE", itself.as_str()]);
     let titlecase = random.pick(&["", "0041", "D800", "10FFFF", itself.as_str()]);
-    format!("{itself};MADE;Lu;0;L;{parts};;;;N;;;;;{titlecase}").into_bytes()
+    format!("{itself};MADE;Lu;0;L;{parts};;;;N;;;{uppercase};;{titlecase}").into_bytes()
 }
 
 fn parts(count: usize) -> String {
@@ -99,22 +121,24 @@ fn parts(count: usize) -> String {
 
 /// Changes a line in one place.
 pub fn change(random: &mut Random, line: &mut Vec<u8>) {
-    match random.below(9) {
+    match random.below(11) {
         0 => set_field(line, 0, random.pick(&CODE_POINTS)),
         1 => set_field(line, 14, random.pick(&CODE_POINTS)),
-        2 => set_field(line, 5, random.pick(&DECOMPOSITIONS)),
-        3 => set_field(line, 5, &parts(random.pick(&[31, 32, 33, 34]))),
-        4 => set_field(line, 5, &format!("<font> {}", parts(random.pick(&[31, 32, 33])))),
-        5 => change_octet(random, line),
-        6 => change_semicolons(random, line),
-        7 => line.extend(random.pick(&[&b"\r"[..], b" ", b";", b"0"])),
+        2 => set_field(line, 12, random.pick(&CODE_POINTS)),
+        3 => set_field(line, 14, ""),
+        4 => set_field(line, 5, random.pick(&DECOMPOSITIONS)),
+        5 => set_field(line, 5, &parts(random.pick(&[31, 32, 33, 34]))),
+        6 => set_field(line, 5, &format!("<font> {}", parts(random.pick(&[31, 32, 33])))),
+        7 => change_octet(random, line),
+        8 => change_semicolons(random, line),
+        9 => line.extend(random.pick(&[&b"\r"[..], b" ", b";", b"0"])),
         _ => pad(line, random.pick(&[511, 512, 513, 600])),
     }
 }
 
 /// Puts something in place of a field, if the line has it.
 fn set_field(line: &mut Vec<u8>, field: usize, content: &str) {
-    let mut fields: Vec<&[u8]> = line.split(|&octet| octet == b';').collect();
+    let mut fields = fields_of(line);
     if field < fields.len() {
         fields[field] = content.as_bytes();
         *line = fields.join(&b';');

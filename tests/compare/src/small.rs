@@ -14,7 +14,7 @@ pub fn run(settings: &Settings) -> Result<u64, Stop> {
     let cuts = cuts(if settings.short { 2 } else { 4 })?;
     let tables = tables(settings.short)?;
     let lines = lines()?;
-    println!("  {found} words in words, {cuts} cuts of keys, {tables} tables of one or two entries, {lines} changes of a line");
+    println!("  {found} words in words, {cuts} cuts of keys, {tables} tables of one or two entries, {lines} changed lines");
     Ok(found + cuts + tables + lines)
 }
 
@@ -97,25 +97,30 @@ fn tables(short: bool) -> Result<u64, String> {
     Ok(cases)
 }
 
-/// A line with every octet at every place: put in its stead, put before it, and the octet left out.
+/// A line with field 14, and one without it, whose titlecase is field 12.
 fn lines() -> Result<u64, String> {
-    const LINE: &[u8] = b"01C4;NAME;Lu;0;L;<compat> 0044 017D;;;;N;;;01C6;01C6;01C5";
+    let filled = changes(b"01C4;NAME;Lu;0;L;<compat> 0044 017D;;;;N;;;01C6;01C6;01C5")?;
+    Ok(filled + changes(b"0061;NAME;Ll;0;L;;;;;N;;;0041;;")?)
+}
+
+/// A line with every octet at every place: put in its stead, put before it, and the octet left out.
+fn changes(line: &[u8]) -> Result<u64, String> {
     let mut cases = 0;
-    for at in 0..=LINE.len() {
+    for at in 0..=line.len() {
         for octet in 0..=u8::MAX {
-            let mut longer = LINE.to_vec();
+            let mut longer = line.to_vec();
             longer.insert(at, octet);
             add(&longer)?;
             cases += 1;
         }
     }
-    for at in 0..LINE.len() {
+    for at in 0..line.len() {
         for octet in 0..=u8::MAX {
-            let mut changed = LINE.to_vec();
+            let mut changed = line.to_vec();
             changed[at] = octet;
             add(&changed)?;
         }
-        add(&[&LINE[..at], &LINE[at + 1..]].concat())?;
+        add(&[&line[..at], &line[at + 1..]].concat())?;
         cases += 257;
     }
     Ok(cases)
