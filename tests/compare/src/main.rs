@@ -24,6 +24,7 @@ mod lines;
 mod made;
 mod pages;
 mod published;
+mod published_titlecases;
 mod random;
 mod settings;
 mod small;

@@ -3,6 +3,7 @@
 use crate::both::Table;
 use crate::building::Building;
 use crate::hex::hex;
+use crate::published_titlecases;
 use crate::settings::Settings;
 use crate::stop::Stop;
 use second::unicode_data::State;
@@ -40,12 +41,12 @@ pub fn read_unicode_data(settings: &Settings) -> Result<Vec<u8>, Stop> {
 pub fn run(settings: &Settings) -> Result<u64, Stop> {
     let octets = read_unicode_data(settings)?;
     let lines = lines_of(&octets);
-    if settings.short {
-        build(&lines)?;
-        return Ok(lines.len() as u64);
-    }
-    let nfkd = read_nfkd(settings)?;
+    let nfkd = if settings.short { Vec::new() } else { read_nfkd(settings)? };
     let table = build(&lines)?;
+    let built_from = lines.len() as u64 + published_titlecases::run(&lines, &table)?;
+    if settings.short {
+        return Ok(built_from);
+    }
     one_by_one(&table)?;
     in_long_texts(&table)?;
     for (scalar, key) in &nfkd {
@@ -55,11 +56,11 @@ pub fn run(settings: &Settings) -> Result<u64, Stop> {
     let nfkd = nfkd.len() as u64;
     println!("  UnicodeData.txt: {} lines, {ENTRIES} entries, {POOL} pool numbers, {SCALARS} scalar code points", lines.len());
     println!("  NFKD of the titlecase by Python: {nfkd} code points");
-    Ok(lines.len() as u64 + SCALARS + nfkd)
+    Ok(built_from + SCALARS + nfkd)
 }
 
 /// Every line is accepted by both builders, and the table by both checks.
-fn build(lines: &[&[u8]]) -> Result<Table, String> {
+pub fn build(lines: &[&[u8]]) -> Result<Table, String> {
     let mut building = Building::new(16_384 * 4, 65_536);
     let mut state = State::default();
     for line in lines {
