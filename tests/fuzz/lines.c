@@ -64,7 +64,7 @@ static void expect_appended(const uint32_t *before, struct lent after, size_t fr
 }
 
 static void expect_line(const struct building *before, const uint64_t *row, struct lent entries, struct lent pool) {
-    EXPECT(row[0] == 0 || (row[0] >= MZ_REFUSED_LINE_LENGTH && row[0] <= MZ_REFUSED_STATE));
+    EXPECT(row[0] == 0 || (row[0] >= MZ_REFUSED_LINE_LENGTH && row[0] <= MZ_REFUSED_FIELD_12));
     EXPECT(row[1] == 0 && row[2] == 0);
     if (row[0] != 0) {
         EXPECT(memcmp(row + 3, before->state, sizeof before->state) == 0);
