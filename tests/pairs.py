@@ -17,9 +17,9 @@ SECONDS_MOST = 60  # a case takes milliseconds; one that never ends is a failure
 # ---- Files ucd.txt
 
 
-def line(code_point, parts="", titlecase="", name=""):
-    """A line of UnicodeData.txt with its fields 0, 1, 5 and 14; the others are empty."""
-    return f"{code_point};{name};;;;{parts};;;;;;;;;{titlecase}\n"
+def line(code_point, parts="", titlecase="", name="", uppercase=""):
+    """A line of UnicodeData.txt with its fields 0, 1, 5, 12 and 14; the others are empty."""
+    return f"{code_point};{name};;;;{parts};;;;;;;{uppercase};;{titlecase}\n"
 
 
 def lines(count, parts=""):
@@ -39,6 +39,9 @@ PUBLISHED = """\
 00C9;LATIN CAPITAL LETTER E WITH ACUTE;Lu;0;L;0045 0301;;;;N;LATIN CAPITAL LETTER E ACUTE;;;00E9;
 00E9;LATIN SMALL LETTER E WITH ACUTE;Ll;0;L;0065 0301;;;;N;LATIN SMALL LETTER E ACUTE;;00C9;;00C9
 """
+
+# And as a partner writes them: field 14 is empty where it equals field 12.
+EMPTIED = line("0061", uppercase="0041") + E_ACUTE + line("00E9", "0065 0301", uppercase="00C9")
 
 # U+0100 becomes 6 octets and U+0101 becomes 7, each from 2: so a text of 4,096 octets has a key of 12,288, or of one more.
 SIX_AND_SEVEN = line("0100", "0045 0301 0301 0045") + line("0101", "0045 0301 0301 0045 0045")
@@ -81,6 +84,7 @@ CASES = [
     ("an empty data line is a line", EXAMPLE + "\n", PAIR, refused(21)),
     ("the data line for é left out", A_TO_TITLE + E_ACUTE, "a\tA\nÉ\té\n", answers("equal", "less")),
     ("data lines that end in 0D 0A", EXAMPLE.replace("\n", "\r\n"), PAIR, refused(24)),
+    ("the same with an empty field 14", EMPTIED.replace("\n", "\r\n"), PAIR, refused(24)),
     ("data lines that end in 0D", EXAMPLE.replace("\n", "\r"), PAIR, refused(21)),
     # each refusal that a data line can bring; 28 is no line's
     ("a data line of 512 octets", LONGEST, PAIR, answers("equal")),
@@ -90,8 +94,16 @@ CASES = [
     ("15 semicolons", "0061;;;;;;;;;;;;;;;0041\n", PAIR, refused(21)),
     ("field 0 of three digits", line("061", "", "0041"), PAIR, refused(22)),
     ("field 5 with two spaces", line("00C9", "0045  0301"), PAIR, refused(23)),
+    ("field 12 in small digits", line("006A", uppercase="004a"), PAIR, refused(29)),
+    ("the same beside a filled field 14", line("006A", "", "004A", uppercase="004a"), PAIR, refused(29)),
+    ("fields 5 and 12 at fault", line("006A", "0045  0301", uppercase="004a"), PAIR, refused(23)),
+    ("fields 12 and 14 at fault", line("006A", "", "004a", uppercase="004a"), PAIR, refused(29)),
+    ("field 12 at fault, field 14 a surrogate", line("006A", "", "D800", uppercase="004a"), PAIR, refused(29)),
+    ("the same code point again, field 12 at fault", A_TO_TITLE + line("0061", uppercase="004a"), PAIR, refused(29)),
     ("field 14 in small digits", line("006A", "", "004a"), PAIR, refused(24)),
     ("a mapping to a surrogate", line("0061", "", "D800"), PAIR, refused(25)),
+    ("the same in field 12, field 14 empty", line("0061", uppercase="D800"), PAIR, refused(25)),
+    ("a surrogate in field 12, not taken", line("0061", "", "0041", uppercase="D800"), PAIR, answers("equal")),
     ("a surrogate without a mapping", A_TO_TITLE + line("D800"), PAIR, answers("equal")),
     ("the same code point twice", A_TO_TITLE + A_TO_TITLE, PAIR, refused(26)),
     ("1,024 mappings", lines(1024), "\u1000\tA\n\u13FF\tA\n", answers("equal", "equal")),
@@ -99,6 +111,11 @@ CASES = [
     ("2,048 parts", lines(64, " ".join(["0041"] * 32)), PAIR, answers("greater")),
     ("2,049 parts", lines(64, " ".join(["0041"] * 32)) + line("2000", "0041"), PAIR, refused(27)),
     ("the first data line at fault decides", line("061") + line("0061", "0045  0301"), PAIR, refused(22)),
+    # the titlecase: field 14, or field 12 where that is empty
+    ("field 14 empty where it equals field 12", EMPTIED, "a\tA\nÉ\té\nJosÉ\tJosé\n", answers("equal", "equal", "equal")),
+    ("both fields filled", line("0061", "", "0041", uppercase="0042"), "a\tA\na\tB\n", answers("equal", "less")),
+    ("field 14 the letter itself", line("0061", "", "0061", uppercase="0041"), PAIR, answers("greater")),
+    ("field 12 the letter itself", line("0061", uppercase="0061"), PAIR, answers("greater")),
     # the table
     ("a letter that is a part of itself", line("0041", "0041"), PAIR, refused(7)),
     ("two letters that are parts of each other", line("0041", "0042") + line("0042", "0041"), PAIR, refused(7)),
