@@ -91,12 +91,15 @@ printf '%s\n' "${names[@]}" | xargs -n 1 -P "${MZ_JOBS:-2}" --process-slot-var=J
     || fail "not all of ${#names[@]} were found"
 echo "${#names[@]} mistakes, all found"
 
-# Part 1 comes first and finds them; each of the others finds one by itself too, so that none only seems to look.
+# Part 1 comes first and finds them; each of the others finds these by itself too, so that none only seems to look.
 while read -r part name; do
     MZ_PARTS=$part bash tests/mistakes.sh "$name" || fail "part $part doesn't find $name by itself"
 done << 'END'
 2 mistake_titlecase_0_if_none
+2 mistake_field_12_ignored
 3 mistake_overlong_accepted
 4 mistake_last_occurrence
+4 mistake_field_12_ignored
 5 mistake_marks_sorted
+5 mistake_29_after_24
 END
