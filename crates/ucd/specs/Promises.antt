@@ -9,14 +9,14 @@ use mathlib.Core.List.{List, [], _∷_}
 use lib.Dec.{eqb}
 use lib.ListN.{take}
 use Rattle.terms.specs.Refusals.{partsMost, refusal}
-use Rattle.ucd.specs.Fields.{optional, titlecase}
+use Rattle.ucd.specs.Fields.{field, optional, titlecase}
 use Rattle.ucd.specs.Lines.{withParts, lineProperties, readingRefusal}
 use Rattle.ucd.specs.declared.numbers.Number.{Number}
 use Rattle.ucd.specs.declared.numbers.Number.the-variants.{Value, Malformed}
 use Rattle.ucd.specs.declared.numbers.Digit.{Digit}
 use Rattle.ucd.specs.declared.numbers.Digit.the-variants.{Value as Valued, Malformed as Undigit}
-use Rattle.ucd.specs.declared.numbers.Titlecase.{Titlecase}
-use Rattle.ucd.specs.declared.numbers.Titlecase.the-variants.{Value as Cased, MalformedUppercase, MalformedTitlecase}
+use Rattle.ucd.specs.declared.cases.Titlecase.{Titlecase}
+use Rattle.ucd.specs.declared.cases.Titlecase.the-variants.{Value as Cased, MalformedUppercase, MalformedTitlecase}
 use Rattle.ucd.specs.declared.parts.Parts.{Parts}
 use Rattle.ucd.specs.declared.parts.Parts.the-variants.{Count, Malformed as Unlisted}
 use Rattle.ucd.specs.declared.SimpleProperties.{SimpleProperties}
@@ -42,16 +42,18 @@ abbrev pub digitRead : Digit → Option ℕ
 digitRead (Valued v) = some v
 digitRead Undigit = none
 
--- field 14 is the first of the two that is malformed
-pub record OnlyTitlecaseMalformed (upper title : List ℕ) : Type 0 where
-  pub formed : optional upper ≡ true
-  pub malformed : optional title ≡ false
+-- ---- a titlecase
 
--- the titlecase that was read, or which field is the first that is malformed
-abbrev pub TitlecaseRead : ℕ → List ℕ → List ℕ → Titlecase → Type 0
-TitlecaseRead c upper title (Cased t) = titlecase c upper title ≡ some (t .0)
-TitlecaseRead c upper title MalformedUppercase = optional upper ≡ false
-TitlecaseRead c upper title MalformedTitlecase = OnlyTitlecaseMalformed upper title
+-- field 14 of a line is malformed, and field 12 is not
+pub record OnlyTitlecaseMalformed (line : List ℕ) : Type 0 where
+  pub formed : optional (field 12 line) ≡ true
+  pub malformed : optional (field 14 line) ≡ false
+
+-- the titlecase of a code point was read from a line, or which field is the first that is malformed
+abbrev pub TitlecaseRead : ℕ → List ℕ → Titlecase → Type 0
+TitlecaseRead c line (Cased t) = titlecase c (field 12 line) (field 14 line) ≡ some (t .0)
+TitlecaseRead c line MalformedUppercase = optional (field 12 line) ≡ false
+TitlecaseRead c line MalformedTitlecase = OnlyTitlecaseMalformed line
 
 -- ---- parts
 

@@ -2,12 +2,13 @@
 // gives its code point, or the first of the refusals 20 to 23, 29 and 24.
 //
 // The definitions stand in specs/. Any octets get an answer.
+mod cases;
 mod fields;
 mod numbers;
 mod parts;
 
+use crate::cases::Titlecase;
 use crate::numbers::Number;
-use crate::numbers::Titlecase;
 use crate::parts::Parts;
 use terms::CodePoint;
 ghost use Prim.Native.Nat.{_≤_};
@@ -47,11 +48,7 @@ pub fn read_line(line: &[u8], parts: &mut [u32]) -> Reading
     let Parts::Count(count) = listed else {
         return Reading::Refused(terms::REFUSED_FIELD_5);
     };
-    // Field 14 is sought from field 12 on, so that the fields before are not passed again.
-    let from_12 = fields::from_field(line, 12);
-    let uppercase = fields::find_field(from_12, 0);
-    let titlecase = fields::find_field(from_12, 2);
-    let cased = numbers::read_titlecase(code, uppercase, titlecase);
+    let cased = cases::read_titlecase(code, line);
     match cased {
         Titlecase::Value(title) => Reading::Read(SimpleProperties { code, title }, count),
         Titlecase::MalformedUppercase => Reading::Refused(terms::REFUSED_FIELD_12),

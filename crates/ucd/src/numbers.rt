@@ -1,8 +1,8 @@
 // Code points in hex digits (document 01, "Lines of UnicodeData.txt"): fields 0, 12 and 14, and the parts of field 5.
 use terms::CodePoint;
 ghost use mathlib.Core.Path.{_≡_};
-ghost use Rattle.ucd.specs.Fields.{digit, digits, bounded, wellSized, codePoint, codePointOr};
-ghost use Rattle.ucd.specs.Promises.{numberRead, digitRead, TitlecaseRead};
+ghost use Rattle.ucd.specs.Fields.{digit, digits, bounded, wellSized, codePoint};
+ghost use Rattle.ucd.specs.Promises.{numberRead, digitRead};
 
 // The code point that octets write.
 pub enum Number {
@@ -16,40 +16,6 @@ pub enum Digit {
     Value(u32),
     // The octet is no digit.
     Malformed,
-}
-
-// The titlecase that fields 12 and 14 give a code point.
-pub enum Titlecase {
-    Value(CodePoint),
-    // Field 12 is neither empty nor a code point.
-    MalformedUppercase,
-    // Field 12 is well formed, and field 14 is neither empty nor a code point.
-    MalformedTitlecase,
-}
-
-// The titlecase that fields 12 and 14 give the code point `code`. Field 12 is also read where 14 is filled: it may be malformed.
-pub fn read_titlecase(code: CodePoint, upper: &[u8], title: &[u8]) -> Titlecase
-    ensures { λ r. ⌜ TitlecaseRead (code .0) (now (upper .entry)) (now (title .entry)) r ⌝ }
-{
-    let uppercase = read_optional(code, upper);
-    let Number::Value(u) = uppercase else {
-        return Titlecase::MalformedUppercase;
-    };
-    let titlecase = read_optional(u, title);
-    let Number::Value(t) = titlecase else {
-        return Titlecase::MalformedTitlecase;
-    };
-    Titlecase::Value(t)
-}
-
-// The code point of a field that may be empty: `other` if it is.
-fn read_optional(other: CodePoint, t: &[u8]) -> Number
-    ensures { λ r. ⌜ numberRead r ≡ codePointOr (other .0) (now (t .entry)) ⌝ }
-{
-    if t.len() == 0 {
-        return Number::Value(other);
-    }
-    read_code_point(t)
 }
 
 // The code point that octets write.

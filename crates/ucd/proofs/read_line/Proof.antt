@@ -6,18 +6,15 @@ use mathlib.Core.Option.{some}
 use mathlib.Core.List.{List, [], _∷_}
 use Prim.Native.Nat.{ℕ, _≤_}
 use lib.Dec.{ltb, eqb}
-use native.Mathlib.Omega.{arith}
-use lib.ListN.{length, take, length-drop}
+use lib.ListN.{length, take}
 use borrow.Author.Needs.{needs}
 use borrow.Author.Tests.{lt-ltb, le-ltb, eq-eqb, ne-eqb}
 use Rattle.terms.specs.Refusals.{lineMost, partsMost, first}
 use Rattle.ucd.specs.Fields.{fields, field, codePoint, decomposition, optional}
 use Rattle.ucd.specs.Lines.{lineCheck, readingRefusal}
 use Rattle.ucd.specs.Promises.{numberRead, TitlecaseRead, partsRead, partsCount}
-use Rattle.ucd.specs.declared.numbers.Titlecase.{Titlecase}
-use Rattle.ucd.specs.declared.numbers.Titlecase.the-variants.{Value as Cased, MalformedUppercase, MalformedTitlecase}
+use Rattle.ucd.specs.declared.cases.Titlecase.{Titlecase}
 use Rattle.ucd.specs.declared.parts.Parts.{Parts}
-use Rattle.ucd.proofs.Cutting.{field-left}
 use Rattle.ucd.proofs.Titlecase.{titlecase-formed}
 use Rattle.ucd.proofs.Lines.{lineProperties-some}
 use Rattle.ucd.proofs.read_line.Statement.{statement}
@@ -86,15 +83,10 @@ few c =
     subst (λ (r : Parts). partsCount r ≤ partsMost) (c .before .listed .given .1) (at-parts c .read-parts .ensures .within)
 
 -- so 12 and 14 decide
-abbrev upper-of : tie.After-known-told2 → List ℕ
-upper-of c = field 12 (line-listed c)
-
-abbrev title-of : tie.After-known-told2 → List ℕ
-title-of c = field 14 (line-listed c)
-
 so-far : (c : tie.After-known-told2)
-    → readingRefusal (line-listed c)
-    ≡ first (lineCheck (not (optional (upper-of c))) 29 ∷ lineCheck (not (optional (title-of c))) 24 ∷ [])
+    → let line = line-listed c in
+    readingRefusal line
+    ≡ first (lineCheck (not (optional (field 12 line))) 29 ∷ lineCheck (not (optional (field 14 line))) 24 ∷ [])
 unfolding readingRefusal
 so-far c =
     let code = at-coded (at-parts c) in
@@ -102,32 +94,12 @@ so-far c =
     rw (short (at-length at), whole at, coded code, listed c)
 
 -- they were read
-abbrev at-listed : tie.After-read-titlecase → tie.After-known-told2
-at-listed c = c .before .before .before .before
-
 abbrev code-of : tie.After-known-told2 → ℕ
 code-of c = at-coded (at-parts c) .before .read .given .0 .0 .0
 
--- as the fields from 12 on: three of them, of which they are the first and the third
-abbrev rest-of : tie.After-from-field → List ℕ
-rest-of c = c .from-field .result .now
-
-three : (c : tie.After-from-field) → length (fields (rest-of c)) ≡ 3
-three c =
-    let d = c .before in
-    let left = ap (λ (l : List (List ℕ)). length l) (c .from-field .ensures) ∙ length-drop 12 (fields (line-listed d)) in
-    omega (arith, left, fifteen (at-fields (at-code (at-coded (at-parts d)))))
-
-cased : (c : tie.After-read-titlecase) (r : Titlecase)
-    → c .read-titlecase .result ≡ r
-    → TitlecaseRead (code-of (at-listed c)) (upper-of (at-listed c)) (title-of (at-listed c)) r
-cased c r e =
-    let f = c .before .before .before in
-    let line = line-listed (f .before) in
-    let left = f .from-field .ensures in
-    let upper = c .before .before .find-field3 .ensures ∙ field-left line (rest-of f) 12 0 left in
-    let title = c .before .find-field4 .ensures ∙ field-left line (rest-of f) 12 2 left in
-    rw (sym upper, sym title) (rw e at (c .read-titlecase .ensures))
+cased : (c : tie.After-read-titlecase) {r : Titlecase} → c .read-titlecase .result ≡ r
+    → TitlecaseRead (code-of (c .before)) (line-listed (c .before)) r
+cased c e = subst (TitlecaseRead (code-of (c .before)) (line-listed (c .before))) e (c .read-titlecase .ensures)
 
 -- ---- the needs
 
@@ -200,17 +172,8 @@ returns-4 c =
       sym (parts r) ∙ ap (λ (x : Parts). partsRead x (out-of r)) (c .enum-told2 .given .1),
     )
 
-from-field-requires : tie.Need-from-field-requires
-from-field-requires c κs = search needs
-
-find-field-requires-3 : tie.Need-find-field-requires-3
-find-field-requires-3 c κs = omega (arith, three c)
-
-find-field-requires-4 : tie.Need-find-field-requires-4
-find-field-requires-4 c κs = omega (arith, three (c .before))
-
 read-titlecase-requires : tie.Need-read-titlecase-requires
-read-titlecase-requires c κs = search needs
+read-titlecase-requires c κs = fifteen (at-fields (at-code (at-coded (at-parts c))))
 
 enum-known-cased : tie.Need-enum-known-cased
 enum-known-cased c = search needs
@@ -228,9 +191,9 @@ same-length-2 c = search needs
 returns-5 : tie.Need-returns-5
 returns-5 c =
     let r = c .before .before .before in
-    let d = at-listed r in
-    let said = cased r (Cased (c .before .cased .given .0 .0)) (c .before .cased .given .1) in
-    let formed = titlecase-formed (code-of d) (upper-of d) (title-of d) _ said in
+    let d = r .before in
+    let said = cased r (c .before .cased .given .1) in
+    let formed = titlecase-formed (code-of d) (field 12 (line-listed d)) (field 14 (line-listed d)) _ said in
     record {
       unrefused = so-far d ∙ rw (formed .0, formed .1);
       given = lineProperties-some _ _ _ _ (coded (at-coded (at-parts d))) (listed d) said;
@@ -242,9 +205,7 @@ same-length-3 c = search needs
 
 -- field 12 is malformed
 returns-6 : tie.Need-returns-6
-returns-6 c =
-    let r = c .before .before in
-    so-far (at-listed r) ∙ rw (cased r MalformedUppercase (c .enum-told3 .given .1))
+returns-6 c = let r = c .before .before in so-far (r .before) ∙ rw (cased r (c .enum-told3 .given .1))
 
 same-length-4 : tie.Need-same-length-4
 same-length-4 c = search needs
@@ -253,8 +214,8 @@ same-length-4 c = search needs
 returns-7 : tie.Need-returns-7
 returns-7 c =
     let r = c .before .before in
-    let said = cased r MalformedTitlecase (c .enum-told4 .given .1) in
-    so-far (at-listed r) ∙ rw (said .formed, said .malformed)
+    let said = cased r (c .enum-told4 .given .1) in
+    so-far (r .before) ∙ rw (said .formed, said .malformed)
 
 pub read-line-spec : {M : Type 1} → statement M
 read-line-spec =
@@ -274,9 +235,6 @@ read-line-spec =
     enum-told-2
     same-length
     returns-4
-    from-field-requires
-    find-field-requires-3
-    find-field-requires-4
     read-titlecase-requires
     enum-known-cased
     enum-told-3

@@ -1,10 +1,10 @@
--- `ucd::numbers::read_optional` meets its contract: whether the field is empty says which case of `codePointOr` holds.
+-- `ucd::cases::read_optional` meets its contract: whether the field is empty says which case of `codePointOr` holds.
 -- Assumes nothing.
 use borrow.Author.Needs.{needs}
 use Rattle.ucd.specs.Fields.{codePointOr}
 use Rattle.ucd.proofs.Walks.{empty-yes, empty-no}
-use Rattle.ucd.proofs.numbers.read_optional.Statement.{statement}
-use Rattle.ucd.proofs.numbers.read_optional.Tie as tie
+use Rattle.ucd.proofs.cases.read_optional.Statement.{statement}
+use Rattle.ucd.proofs.cases.read_optional.Tie as tie
 
 -- empty
 returns : tie.Need-returns
