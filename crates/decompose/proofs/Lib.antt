@@ -1,6 +1,7 @@
 pub mod Levels
 pub mod Cycles
 pub mod Unfolds
+pub mod Whole
 pub mod Bounds
 pub mod Measuring
 pub mod Unfolding

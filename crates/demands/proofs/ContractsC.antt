@@ -2,7 +2,9 @@
 -- A call of include/mundeziwa.h asks for nothing.
 -- Assumes nothing.
 use mathlib.Core.Path.{_≡_}
-use mathlib.Core.List.{[], _∷_}
+use Prim.Native.Nat.{ℕ}
+use mathlib.Core.Option.{Option}
+use mathlib.Core.List.{List, [], _∷_}
 use contract.Lifetimes.{Lfts}
 use denote.Triple.Clauses.{AtExit}
 use borrow.Fn.Kinds.{Dens, endedOf, resT}
@@ -27,10 +29,8 @@ use Rattle.mz_texts.proofs.one_text.mz_prepare_accepted.Reads as mz-prepare-acc
 use Rattle.mz_texts.proofs.two_texts.mz_equal.Kinds as mz-equal-kinds
 use Rattle.mz_texts.proofs.two_texts.mz_equal.Reads as mz-equal
 use Rattle.mz_texts.proofs.two_texts.mz_equal_accepted.Reads as mz-equal-accepted
-use Rattle.mz_texts.proofs.two_texts.mz_order.Kinds as mz-order-kinds
 use Rattle.mz_texts.proofs.two_texts.mz_order.Reads as mz-order
 use Rattle.mz_texts.proofs.two_texts.mz_order_accepted.Reads as mz-order-accepted
-use Rattle.mz_texts.proofs.two_texts.mz_substring.Kinds as mz-substring-kinds
 use Rattle.mz_texts.proofs.two_texts.mz_substring.Reads as mz-substring
 use Rattle.mz_texts.proofs.two_texts.mz_substring_accepted.Reads as mz-substring-accepted
 
@@ -78,65 +78,42 @@ module _ (κs : Lfts 5) (a : Dens κs mz-prepare-kinds.ps) where
         → RowAnswered 4 preparedValues one (s .1 .1 .1 .1 .1 .0 .now) (s .1 .1 .1 .1 .0 .now ∷ [])
     mz-prepare-accepted-contract h = h
 
--- ---- `mz_equal(collation, first, second, entries, pool, first_key, second_key, answer)`
+-- ---- two texts: (collation, first, second, entries, pool, first_key, second_key, answer)
 
+-- their parameters are of the same kinds
 module _ (κs : Lfts 7) (a : Dens κs mz-equal-kinds.ps) where
   pub mz-equal-asks-nothing : mz-equal.Asked κs a
   mz-equal-asks-nothing = tt
 
-  module _ (r : resT mz-equal-kinds.r κs .Denot) (s : AtExit (endedOf 7 mz-equal-kinds.ps mz-equal-kinds.r) κs) where
-    -- the row and both buffers
-    abbrev equal-answered : Type 0
-    equal-answered =
-        RowAnswered 1 equalityValues (twoCall (collationOf (a .0)) (a .1 .0 .now) (a .1 .1 .0 .now) (a .1 .1 .1 .0 .now)
-        (a .1 .1 .1 .1 .0 .now) (a .1 .1 .1 .1 .1 .0 .now) (a .1 .1 .1 .1 .1 .1 .0 .now)) (s .1 .1 .1 .1 .1 .1 .1 .0 .now)
-        (s .1 .1 .1 .1 .1 .0 .now ∷ s .1 .1 .1 .1 .1 .1 .0 .now ∷ [])
-
-    pub mz-equal-contract : mz-equal.Learnt κs a r s → equal-answered
-    mz-equal-contract h = h
-
-    -- and its twin
-    pub mz-equal-accepted-contract : mz-equal-accepted.Learnt κs a r s → equal-answered
-    mz-equal-accepted-contract h = h
-
--- ---- `mz_order(collation, first, second, entries, pool, first_key, second_key, answer)`
-
-module _ (κs : Lfts 7) (a : Dens κs mz-order-kinds.ps) where
   pub mz-order-asks-nothing : mz-order.Asked κs a
   mz-order-asks-nothing = tt
 
-  module _ (r : resT mz-order-kinds.r κs .Denot) (s : AtExit (endedOf 7 mz-order-kinds.ps mz-order-kinds.r) κs) where
-    -- the row and both buffers
-    abbrev order-answered : Type 0
-    order-answered =
-        RowAnswered 1 orderValues (twoCall (collationOf (a .0)) (a .1 .0 .now) (a .1 .1 .0 .now) (a .1 .1 .1 .0 .now)
-        (a .1 .1 .1 .1 .0 .now) (a .1 .1 .1 .1 .1 .0 .now) (a .1 .1 .1 .1 .1 .1 .0 .now)) (s .1 .1 .1 .1 .1 .1 .1 .0 .now)
-        (s .1 .1 .1 .1 .1 .0 .now ∷ s .1 .1 .1 .1 .1 .1 .0 .now ∷ [])
-
-    pub mz-order-contract : mz-order.Learnt κs a r s → order-answered
-    mz-order-contract h = h
-
-    -- and its twin
-    pub mz-order-accepted-contract : mz-order-accepted.Learnt κs a r s → order-answered
-    mz-order-accepted-contract h = h
-
--- ---- `mz_substring(collation, first, second, entries, pool, first_key, second_key, answer)`
-
-module _ (κs : Lfts 7) (a : Dens κs mz-substring-kinds.ps) where
   pub mz-substring-asks-nothing : mz-substring.Asked κs a
   mz-substring-asks-nothing = tt
 
-  module _ (r : resT mz-substring-kinds.r κs .Denot) (s : AtExit (endedOf 7 mz-substring-kinds.ps mz-substring-kinds.r) κs) where
-    -- the row and both buffers
-    abbrev substring-answered : Type 0
-    substring-answered =
-        RowAnswered 5 soughtValues (twoCall (collationOf (a .0)) (a .1 .0 .now) (a .1 .1 .0 .now) (a .1 .1 .1 .0 .now)
+  module _ (r : resT mz-equal-kinds.r κs .Denot) (s : AtExit (endedOf 7 mz-equal-kinds.ps mz-equal-kinds.r) κs) where
+    -- the row, of so many numbers after the refusal's, and both buffers
+    abbrev answered : ℕ → (Call → Option (List ℕ)) → Type 0
+    answered n values =
+        RowAnswered n values (twoCall (collationOf (a .0)) (a .1 .0 .now) (a .1 .1 .0 .now) (a .1 .1 .1 .0 .now)
         (a .1 .1 .1 .1 .0 .now) (a .1 .1 .1 .1 .1 .0 .now) (a .1 .1 .1 .1 .1 .1 .0 .now)) (s .1 .1 .1 .1 .1 .1 .1 .0 .now)
         (s .1 .1 .1 .1 .1 .0 .now ∷ s .1 .1 .1 .1 .1 .1 .0 .now ∷ [])
 
-    pub mz-substring-contract : mz-substring.Learnt κs a r s → substring-answered
+    pub mz-equal-contract : mz-equal.Learnt κs a r s → answered 1 equalityValues
+    mz-equal-contract h = h
+
+    pub mz-order-contract : mz-order.Learnt κs a r s → answered 1 orderValues
+    mz-order-contract h = h
+
+    pub mz-substring-contract : mz-substring.Learnt κs a r s → answered 5 soughtValues
     mz-substring-contract h = h
 
-    -- and its twin
-    pub mz-substring-accepted-contract : mz-substring-accepted.Learnt κs a r s → substring-answered
+    -- and their twins
+    pub mz-equal-accepted-contract : mz-equal-accepted.Learnt κs a r s → answered 1 equalityValues
+    mz-equal-accepted-contract h = h
+
+    pub mz-order-accepted-contract : mz-order-accepted.Learnt κs a r s → answered 1 orderValues
+    mz-order-accepted-contract h = h
+
+    pub mz-substring-accepted-contract : mz-substring-accepted.Learnt κs a r s → answered 5 soughtValues
     mz-substring-accepted-contract h = h

@@ -11,7 +11,7 @@ use Prim.Native.Nat.{ℕ, _≤_, _<_}
 use mathlib.Core.Logic.{_↔_, Iff·trans, true-and}
 use mathlib.Core.Option.{Option, none, some}
 use mathlib.Core.List.{List, [], _∷_, _++_, map}
-use lib.ListN.{length, drop}
+use lib.ListN.{length}
 use Rattle.terms.specs.Collations.{collationOf}
 use Rattle.terms.specs.Refusals.{refusal, first, Outcome, refused, checkOutcome}
 use Rattle.terms.specs.declared.Check.{Check}
@@ -43,7 +43,7 @@ use Rattle.demands.specs.Faults.{Impossible, WrongSemicolons, MalformedF
 use Rattle.demands.specs.Faults.{SaysTooMuch, fault3, fault4, fault5, fault6, fault7, fault20, fault21, fault22}
 use Rattle.demands.specs.Faults.{fault23, fault25, fault26, fault28, fault29, formFaults}
 use Rattle.demands.specs.Faults.{tableFaults, readingFaults, lineFaults}
-use Rattle.demands.proofs.FaultRows.{row-exactly, row-clear, number-exactly, plain-exactly}
+use Rattle.demands.proofs.FaultRows.{row-exactly, row-clear, number-at, plain-at}
 use Rattle.demands.proofs.TableFaults.{form-renders, table-renders}
 use Rattle.demands.proofs.LineFaults.{line-row, line-clear}
 use Rattle.demands.proofs.Rows.{first-exactly, first-callChecks}
@@ -142,29 +142,24 @@ module _ (t : Table) where
 
   -- 3 exactly when a size is wrong
   pub number-3 : (tableRefusal t ≡ some (refusal 3 0 0)) ↔ WrongSize t
-  number-3 =
-      Iff·trans (table-row 3 0)
-      (Iff·trans (plain-exactly [] 3 (WrongSize t) (fault4 t ∷ fault5 t ∷ fault6 t ∷ fault7 t ∷ []) refl refl) true-and)
+  number-3 = Iff·trans (table-row 3 0) (Iff·trans (plain-at (tableFaults t) 0 3 (WrongSize t) refl refl refl) true-and)
 
   -- 4 exactly when not 3, and i is the lowest entry with a code point or titlecase that is wrong
   pub number-4 : (i : ℕ)
       → (tableRefusal t ≡ some (refusal 4 0 i))
       ↔ (Clear (fault3 t ∷ []) × LowestAt (WrongCode (t .entries)) (entryCount (t .entries)) i)
-  number-4 i =
-      Iff·trans (table-row 4 i) (number-exactly (fault3 t ∷ []) (fault4 t) (fault5 t ∷ fault6 t ∷ fault7 t ∷ []) refl refl i)
+  number-4 i = Iff·trans (table-row 4 i) (number-at (tableFaults t) 1 (fault4 t) refl refl refl i)
 
   -- 5 exactly when not 3 or 4, and i is the lowest wrong entry, or there is none, the pool is too long and i is how many
   -- entries there are
   pub number-5 : (i : ℕ) → (tableRefusal t ≡ some (refusal 5 0 i)) ↔ (Clear (fault3 t ∷ fault4 t ∷ []) × WrongEntries t i)
-  number-5 i =
-      Iff·trans (table-row 5 i) (number-exactly (fault3 t ∷ fault4 t ∷ []) (fault5 t) (fault6 t ∷ fault7 t ∷ []) refl refl i)
+  number-5 i = Iff·trans (table-row 5 i) (number-at (tableFaults t) 2 (fault5 t) refl refl refl i)
 
   -- 6 exactly when not 3 to 5, and i is the lowest index of a pool number that is not scalar
   pub number-6 : (i : ℕ)
       → (tableRefusal t ≡ some (refusal 6 0 i))
       ↔ (Clear (fault3 t ∷ fault4 t ∷ fault5 t ∷ []) × LowestAt (WrongNumber (t .pool)) (length (t .pool)) i)
-  number-6 i =
-      Iff·trans (table-row 6 i) (number-exactly (fault3 t ∷ fault4 t ∷ fault5 t ∷ []) (fault6 t) (fault7 t ∷ []) refl refl i)
+  number-6 i = Iff·trans (table-row 6 i) (number-at (tableFaults t) 3 (fault6 t) refl refl refl i)
 
   -- the form that demand 3 names: none of 3 to 6 applies
   pub form-exactly : (formRefusal t ≡ none) ↔ Clear (formFaults t)
@@ -174,7 +169,7 @@ module _ (t : Table) where
   -- 7 exactly when the form holds, entry i does not unfold well and every lower one does
   pub number-7 : (i : ℕ) → (tableRefusal t ≡ some (refusal 7 0 i)) ↔ ((formRefusal t ≡ none) × LowestUnsound t i)
   number-7 i =
-      let row = Iff·trans (table-row 7 i) (number-exactly (formFaults t) (fault7 t) [] refl refl i) in (
+      let row = Iff·trans (table-row 7 i) (number-at (tableFaults t) 4 (fault7 t) refl refl refl i) in (
         λ e. (form-exactly .1 (row .0 e .0), row .0 e .1),
         λ h. row .1 (form-exactly .0 (h .0), h .1),
       )
@@ -202,78 +197,52 @@ module _ (b : Built) (line : List ℕ) where
 
   -- 28 exactly when the state is impossible
   pub number-28 : (lineRefusal b line ≡ some (refusal 28 0 0)) ↔ Impossible b
-  number-28 =
-      Iff·trans (line-first 28 0)
-      (Iff·trans (plain-exactly [] 28 (Impossible b) (drop 1 (lineFaults b line)) refl refl) true-and)
+  number-28 = Iff·trans (line-first 28 0) (Iff·trans (plain-at (lineFaults b line) 0 28 (Impossible b) refl refl refl) true-and)
 
   -- 20 exactly when not 28, and the line is over 512 octets
   pub number-20 : (lineRefusal b line ≡ some (refusal 20 0 0))
       ↔ (Clear (fault28 b ∷ []) × (512 < length line))
-  number-20 =
-      Iff·trans (line-first 20 0)
-      (plain-exactly (fault28 b ∷ []) 20 (512 < length line)
-      (drop 2 (lineFaults b line)) refl refl)
+  number-20 = Iff·trans (line-first 20 0) (plain-at (lineFaults b line) 1 20 (512 < length line) refl refl refl)
 
   -- 21 exactly when not 28 or 20, and there are not just 14 semicolons
   pub number-21 : (lineRefusal b line ≡ some (refusal 21 0 0))
       ↔ (Clear (fault28 b ∷ fault20 line ∷ []) × WrongSemicolons line)
-  number-21 =
-      Iff·trans (line-first 21 0)
-      (plain-exactly (fault28 b ∷ fault20 line ∷ []) 21 (WrongSemicolons line)
-      (drop 3 (lineFaults b line)) refl refl)
+  number-21 = Iff·trans (line-first 21 0) (plain-at (lineFaults b line) 2 21 (WrongSemicolons line) refl refl refl)
 
   -- 22 exactly when none before it applies, and field 0 writes no code point
   pub number-22 : (lineRefusal b line ≡ some (refusal 22 0 0))
       ↔ (Clear (fault28 b ∷ fault20 line ∷ fault21 line ∷ []) × (codePoint (field 0 line) ≡ none))
-  number-22 =
-      Iff·trans (line-first 22 0)
-      (plain-exactly (fault28 b ∷ fault20 line ∷ fault21 line ∷ []) 22 (codePoint (field 0 line) ≡ none)
-      (drop 4 (lineFaults b line)) refl refl)
+  number-22 = Iff·trans (line-first 22 0) (plain-at (lineFaults b line) 3 22 (codePoint (field 0 line) ≡ none) refl refl refl)
 
   -- 23: field 5 is no decomposition
   pub number-23 : (lineRefusal b line ≡ some (refusal 23 0 0))
       ↔ (Clear (fault28 b ∷ fault20 line ∷ fault21 line ∷ fault22 line ∷ []) × (decomposition (field 5 line) ≡ none))
-  number-23 =
-      Iff·trans (line-first 23 0)
-      (plain-exactly (fault28 b ∷ fault20 line ∷ fault21 line ∷ fault22 line ∷ []) 23 (decomposition (field 5 line) ≡ none)
-      (drop 5 (lineFaults b line)) refl refl)
+  number-23 = Iff·trans (line-first 23 0) (plain-at (lineFaults b line) 4 23 (decomposition (field 5 line) ≡ none) refl refl refl)
 
   -- 29: field 12 is neither empty nor a code point, whatever field 14 has
   pub number-29 : (lineRefusal b line ≡ some (refusal 29 0 0))
       ↔ (Clear (fault28 b ∷ fault20 line ∷ fault21 line ∷ fault22 line ∷ fault23 line ∷ []) × MalformedField 12 line)
-  number-29 =
-      Iff·trans (line-first 29 0)
-      (plain-exactly (fault28 b ∷ fault20 line ∷ fault21 line ∷ fault22 line ∷ fault23 line ∷ []) 29 (MalformedField 12 line)
-      (drop 6 (lineFaults b line)) refl refl)
+  number-29 = Iff·trans (line-first 29 0) (plain-at (lineFaults b line) 5 29 (MalformedField 12 line) refl refl refl)
 
   -- 24: field 14 is neither empty nor a code point
   pub number-24 : (lineRefusal b line ≡ some (refusal 24 0 0))
       ↔ (Clear (fault28 b ∷ fault20 line ∷ fault21 line ∷ fault22 line ∷ fault23 line ∷ fault29 line ∷ [])
       × MalformedField 14 line)
-  number-24 =
-      let before = fault28 b ∷ fault20 line ∷ fault21 line ∷ fault22 line ∷ fault23 line ∷ fault29 line ∷ [] in
-      Iff·trans (line-first 24 0)
-      (plain-exactly before 24 (MalformedField 14 line) (drop 7 (lineFaults b line)) refl refl)
+  number-24 = Iff·trans (line-first 24 0) (plain-at (lineFaults b line) 6 24 (MalformedField 14 line) refl refl refl)
 
   -- 25: the line has a mapping, and one of the code points that it says is a surrogate
   pub number-25 : (lineRefusal b line ≡ some (refusal 25 0 0)) ↔ (Clear (fault28 b ∷ readingFaults line) × SaysSurrogate line)
-  number-25 =
-      Iff·trans (line-first 25 0)
-      (plain-exactly (fault28 b ∷ readingFaults line) 25 (SaysSurrogate line) (drop 8 (lineFaults b line)) refl refl)
+  number-25 = Iff·trans (line-first 25 0) (plain-at (lineFaults b line) 7 25 (SaysSurrogate line) refl refl refl)
 
   -- 26: the code point that it says is not above the last
   pub number-26 : (lineRefusal b line ≡ some (refusal 26 0 0))
       ↔ (Clear (fault28 b ∷ readingFaults line ++ fault25 line ∷ []) × SaysEarlier b line)
-  number-26 =
-      let before = fault28 b ∷ readingFaults line ++ fault25 line ∷ [] in
-      Iff·trans (line-first 26 0) (plain-exactly before 26 (SaysEarlier b line) (drop 9 (lineFaults b line)) refl refl)
+  number-26 = Iff·trans (line-first 26 0) (plain-at (lineFaults b line) 8 26 (SaysEarlier b line) refl refl refl)
 
   -- 27: it has a mapping, and there is no room or a limit is passed
   pub number-27 : (lineRefusal b line ≡ some (refusal 27 0 0))
       ↔ (Clear (fault28 b ∷ readingFaults line ++ fault25 line ∷ fault26 b line ∷ []) × SaysTooMuch b line)
-  number-27 =
-      let before = fault28 b ∷ readingFaults line ++ fault25 line ∷ fault26 b line ∷ [] in
-      Iff·trans (line-first 27 0) (plain-exactly before 27 (SaysTooMuch b line) (drop 10 (lineFaults b line)) refl refl)
+  number-27 = Iff·trans (line-first 27 0) (plain-at (lineFaults b line) 9 27 (SaysTooMuch b line) refl refl refl)
 
 -- ---- "and then no lent buffer changes."
 

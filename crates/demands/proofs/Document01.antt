@@ -1,33 +1,30 @@
 -- Sentences of document 01 that no demand has in its words, each with the theorems that render it; they take what the
 -- theorems of the demands take (Demand1.antt says what).
 -- Assumes nothing.
-use mathlib.Core.Path.{_≡_, refl, sym, ap, _∙_, subst}
+use mathlib.Core.Path.{_≡_, refl, ap, _∙_}
 use Prim.Native.Nat.{ℕ, suc, _+_, _*_, _≤_}
-use native.Mathlib.Nat.{zero-add}
 use native.Mathlib.Omega.{arith}
 use mathlib.Core.Bool.{Bool, true, false, not, cond}
 use mathlib.Core.Logic.{_↔_}
 use mathlib.Core.Option.{Option, none, some}
-use mathlib.Core.List.{List, [], _∷_, _++_, map, append-assoc}
+use mathlib.Core.List.{List, [], _∷_, _++_, map}
 use lib.ListN.{length, replicate, length-map}
 use borrow.Author.Tests.{le-ltb, not-true}
 use Rattle.terms.specs.CodePoints.{scalar}
 use Rattle.terms.specs.Collations.{readsTable}
-use Rattle.terms.specs.Lists.{all, empty, over, there, In}
+use Rattle.terms.specs.Lists.{empty, over, there, In}
 use Rattle.terms.specs.Refusals.{textMost, Outcome, Given}
 use Rattle.terms.specs.declared.Collation.{Collation}
 use Rattle.terms.specs.declared.Collation.the-variants.{Octet, AsciiCasemap, UnicodeCasemap}
 use Rattle.terms.specs.declared.Refusal.{Refusal}
-use Rattle.terms.proofs.Lists.{all-cons, all-append}
-use Rattle.utf8.specs.Utf8.{Character, characters, Encodes, encodes}
+use Rattle.utf8.specs.Utf8.{Character, characters, Encodes}
 use Rattle.utf8.proofs.Characters.{characters-exactly}
 use Rattle.table.specs.Mapping.{Mapping}
 use Rattle.table.specs.Table.{Table, mappingOf}
 use Rattle.decompose.specs.Levels.{Unfolds, UnfoldEach}
-use Rattle.decompose.specs.Levels.Unfolds.{stays, decomposes}
-use Rattle.decompose.specs.Levels.UnfoldEach.{none-left, part}
-use Rattle.decompose.specs.Steps.{StepsGive, no-character, character, stepsKey}
+use Rattle.decompose.specs.Steps.{StepsGive, stepsKey}
 use Rattle.decompose.proofs.Levels.{empty-true}
+use Rattle.decompose.proofs.Whole.{unfolded-whole, unfolds-parts, unfolds-append, steps-give-append}
 use Rattle.keys.specs.Keys.{upper, prepared, tableUnder, roomFor, keyed}
 use Rattle.keys.specs.Summaries.{summaryNumbers, preparedNumbers}
 use Rattle.keys.specs.declared.Summary.{Summary}
@@ -64,56 +61,31 @@ valid-exactly = characters-exactly
 
 -- ---- "and the same step is applied again to each resulting code point until none decomposes."
 
-all-whole : (m : Mapping) {c : ℕ} {codes : List ℕ} {asked : ℕ} → Unfolds m c codes asked
-    → all (λ d. empty (m .parts d)) codes ≡ true
-all-whole m u = elim u as
-    (λ (c : ℕ) (codes : List ℕ) (asked : ℕ) (x : Unfolds m c codes asked). all (λ d. empty (m .parts d)) codes ≡ true)
-    (λ (ps codes : List ℕ) (asked : ℕ) (x : UnfoldEach m ps codes asked). all (λ d. empty (m .parts d)) codes ≡ true) [
-      | stays {c = c} e ↦ all-cons (λ d. empty (m .parts d)) c [] (ap empty e) refl
-      | decomposes d (v → f) ↦ f
-      | none-left ↦ refl
-      | part {codes = codes} {rest = rest} (v → f) (w → g) ↦ all-append (λ d. empty (m .parts d)) codes rest f g
-    ]
-
 -- no code point of a full decomposition decomposes
 pub none-decomposes : (m : Mapping) {c : ℕ} {codes : List ℕ} {asked : ℕ} → Unfolds m c codes asked
     → (d : ℕ) → In d codes → m .parts d ≡ []
 none-decomposes m {codes = codes} u d i =
-    empty-true (m .parts d) (all-in (λ d. empty (m .parts d)) codes (all-whole m u) d i)
+    empty-true (m .parts d) (all-in (λ d. empty (m .parts d)) codes (unfolded-whole m u) d i)
 
 -- ---- "Titlecase isn't taken again on the results."
 
 -- unfolding asks for no titlecase: over another mapping with the same decompositions it is the same
 pub titles-unasked : (m o : Mapping) → ((c : ℕ) → m .parts c ≡ o .parts c) → {c : ℕ} {codes : List ℕ} {asked : ℕ}
     → Unfolds m c codes asked → Unfolds o c codes asked
-titles-unasked m o same u = elim u as
-    (λ (c : ℕ) (codes : List ℕ) (asked : ℕ) (x : Unfolds m c codes asked). Unfolds o c codes asked)
-    (λ (ps codes : List ℕ) (asked : ℕ) (x : UnfoldEach m ps codes asked). UnfoldEach o ps codes asked) [
-      | stays {c = c} e ↦ stays (sym (same c) ∙ e)
-      | decomposes {c = c} {codes = codes} {asked = asked} d (v → f) ↦
-          decomposes (λ e. d (same c ∙ e)) (subst (λ (ps : List ℕ). UnfoldEach o ps codes asked) (same c) f)
-      | none-left ↦ none-left
-      | part (v → f) (w → g) ↦ part f g
-    ]
+titles-unasked m o same u = unfolds-parts m o same u
 
 -- ---- "Marks aren't reordered."
 
 -- the full decompositions of some parts and then of others stand in that order
 pub parts-append : (m : Mapping) {ps qs codes rest : List ℕ} {asked later : ℕ} → UnfoldEach m ps codes asked
     → UnfoldEach m qs rest later → UnfoldEach m (ps ++ qs) (codes ++ rest) (asked + later)
-parts-append m {later = later} none-left v = rw (zero-add later) v
-parts-append m {rest = rest} {later = later} (part {codes = codes} {rest = more} {asked = asked} {later = then} u w) v =
-    let sum : asked + then + later ≡ asked + (then + later) = omega arith in
-    rw (append-assoc codes more rest, sum) (part u (parts-append m w v))
+parts-append m u v = unfolds-append m u v
 
 -- what the published steps give of some characters and then of others is the key of the one and then that of the other
 pub steps-append : (m : Mapping) {chs ds : List Character} {key more : List ℕ} {n k : ℕ} → StepsGive m chs key n
     → StepsGive m ds more k
     → StepsGive m (chs ++ ds) (key ++ more) (n + k)
-steps-append m {more = more} {k = k} no-character t = rw (zero-add k) t
-steps-append m {more = more} {k = k} (character {codes = codes} {key = key} {asked = asked} {later = later} u s) t =
-    let sum : suc asked + later + k ≡ suc asked + (later + k) = omega arith in
-    rw (append-assoc (encodes codes) key more, sum) (character u (steps-append m s t))
+steps-append m s t = steps-give-append m s t
 
 -- ---- "Preparation reports it, and whether the text is valid (always so under collations 1 and 2). It is 0 for an invalid
 -- text and under collations 1 and 2."

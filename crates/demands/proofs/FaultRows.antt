@@ -1,13 +1,14 @@
 -- A row of checks that renders a row of faults gives the first that applies, with its number and detail, and nothing where
 -- none does.
 -- Assumes nothing.
-use mathlib.Core.Path.{_≡_, refl, sym, ap, _∙_}
-use Prim.Native.Nat.{ℕ}
+use mathlib.Core.Path.{_≡_, refl, sym, ap, _∙_, subst}
+use Prim.Native.Nat.{ℕ, suc}
 use mathlib.Core.Bool.{Bool, true, false, not, true≢false}
 use mathlib.Core.Logic.{_⊎_, inl, inr, _↔_}
 use mathlib.Core.Option.{Option, none, some}
 use mathlib.Core.List.{List, [], _∷_, _++_}
 use lib.Dec.{eqb}
+use lib.ListN.{take, drop}
 use borrow.Author.Tests.{eq-eqb, not-true}
 use Rattle.terms.specs.Lists.{all}
 use Rattle.terms.specs.Refusals.{refusal, check, first}
@@ -139,7 +140,7 @@ absent-first n d (f ∷ fs) e (inl h) =
 absent-first n d (f ∷ fs) e (inr h) = absent-first n d fs (all-rest (λ (f : Fault). not (eqb (f .number) n)) f fs e) (h .1)
 
 -- the number of a fault that no other of the row has is given exactly when that fault applies and none before it does
-pub number-exactly : (before : List Fault) (f : Fault) (after : List Fault)
+number-exactly : (before : List Fault) (f : Fault) (after : List Fault)
     → absent (f .number) before ≡ true → absent (f .number) after ≡ true
     → (d : ℕ) → FirstFault (before ++ f ∷ after) (f .number) d ↔ (Clear before × f .applies d)
 number-exactly [] f after a b d = (found, λ h. inl (refl, h .1))
@@ -162,10 +163,18 @@ number-exactly (g ∷ before) f after a b d =
         (all-first (λ (g : Fault). not (eqb (g .number) (f .number))) g before a)))
     found later (inr h) = let rest = later .0 (h .1) in ((h .0, rest .0), rest .1)
 
--- the same of a fault whose detail is 0
-pub plain-exactly : (before : List Fault) (n : ℕ) (A : Type 0) (after : List Fault)
-    → absent n before ≡ true → absent n after ≡ true
-    → FirstFault (before ++ plain n A ∷ after) n 0 ↔ (Clear before × A)
-plain-exactly before n A after a b =
-    let h = number-exactly before (plain n A) after a b 0 in
+-- the same of the fault at place i of a row
+pub number-at : (row : List Fault) (i : ℕ) (f : Fault) → row ≡ take i row ++ f ∷ drop (suc i) row
+    → absent (f .number) (take i row) ≡ true → absent (f .number) (drop (suc i) row) ≡ true
+    → (d : ℕ) → FirstFault row (f .number) d ↔ (Clear (take i row) × f .applies d)
+number-at row i f e a b d =
+    subst (λ (r : List Fault). FirstFault r (f .number) d ↔ (Clear (take i row) × f .applies d)) (sym e)
+    (number-exactly (take i row) f (drop (suc i) row) a b d)
+
+-- and of one whose detail is 0
+pub plain-at : (row : List Fault) (i n : ℕ) (A : Type 0) → row ≡ take i row ++ plain n A ∷ drop (suc i) row
+    → absent n (take i row) ≡ true → absent n (drop (suc i) row) ≡ true
+    → FirstFault row n 0 ↔ (Clear (take i row) × A)
+plain-at row i n A e a b =
+    let h = number-at row i (plain n A) e a b 0 in
     (λ f. (h .0 f .0, h .0 f .1 .1), λ p. h .1 (p .0, (refl, p .1)))

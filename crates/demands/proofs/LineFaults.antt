@@ -1,15 +1,15 @@
 -- The checks of a line render its faults: 28, 20 to 27 and 29 in words.
 -- Assumes nothing.
 use mathlib.Core.Path.{_≡_, refl, sym, ap, _∙_}
-use Prim.Native.Nat.{ℕ, _+_, _≤_}
+use Prim.Native.Nat.{ℕ, _+_}
 use native.Mathlib.Omega.{arith}
-use mathlib.Core.Bool.{Bool, true, false, not, _&&_, true≢false}
-use mathlib.Core.Logic.{_⊎_, inl, inr, _↔_}
+use mathlib.Core.Bool.{Bool, true, false, not, _&&_}
+use mathlib.Core.Logic.{_↔_}
 use mathlib.Core.Option.{Option, none, some}
 use mathlib.Core.List.{List, [], _∷_, _++_}
 use lib.Dec.{leb, ltb, eqb}
 use lib.ListN.{length}
-use borrow.Author.Tests.{not-true, leb-true, le-leb}
+use borrow.Author.Tests.{not-true, leb-true}
 use Rattle.terms.specs.CodePoints.{scalar}
 use Rattle.terms.specs.Lists.{all, empty, there, In}
 use Rattle.terms.specs.Refusals.{refusal, first}
@@ -19,8 +19,7 @@ use Rattle.terms.proofs.Tests.{both, join, none-some}
 use Rattle.table.specs.Layout.{entryCount}
 use Rattle.table.specs.Table.{Table}
 use Rattle.ucd.specs.Fields.{fields, field, codePoint, decomposition, optional}
-use Rattle.ucd.specs.Lines.{Properties, LineSays, lineProperties, saysNothing, lineCheck, readingChecks}
-use Rattle.ucd.specs.Lines.{readingRefusal}
+use Rattle.ucd.specs.Lines.{Properties, LineSays, lineProperties, saysNothing, lineCheck, readingChecks, readingRefusal}
 use Rattle.ucd.proofs.Cutting.{length-cut}
 use Rattle.ucd.proofs.Lines.{lineProperties-read, lineProperties-exactly, says-most}
 use Rattle.builder.specs.Builder.{Built, overfull, impossible, surrogate, crowded, givenChecks, lineRefusal}
@@ -28,9 +27,9 @@ use Rattle.demands.specs.Faults.{plain, Surrogate, TooMany, Impossible, 
 use Rattle.demands.specs.Faults.{SaysSurrogate, SaysEarlier, SaysTooMuch, FirstFault, Clear, readingFaults, lineFaults}
 use Rattle.demands.specs.Faults.{fault25, fault26, fault27, fault28}
 use Rattle.demands.proofs.Reflect.{ltb-exactly, eqb-exactly, and-exactly, or-exactly, or4-exactly, not-exactly}
-use Rattle.demands.proofs.Reflect.{false-exactly, gone-exactly, empty-exactly, all-fails, all-in}
+use Rattle.demands.proofs.Reflect.{nor-exactly, gone-exactly, empty-exactly, all-fails, all-in}
 use Rattle.demands.proofs.FaultRows.{Renders, RendersEach, renders-plain, renders-append, row-exactly, row-clear}
-use Rattle.demands.proofs.TableFaults.{scalar-exactly}
+use Rattle.demands.proofs.TableFaults.{scalar-exactly, unscalar-exactly}
 
 -- ---- 28, 20 to 24 and 29
 
@@ -63,23 +62,9 @@ fields-exactly line =
 optional-exactly : (i : ℕ) (line : List ℕ) → (not (optional (field i line)) ≡ true) ↔ MalformedField i line
 optional-exactly i line =
     let os = field i line in
-    let h = or-exactly (empty os) (there (codePoint os)) (empty-exactly os) (λ e. e, λ e. e) in
-    let gone = gone-exactly (codePoint os) in
-    let no = not-exactly (optional os) h in (
-      λ e. (λ q. no .0 e (inl q), gone .0 (go (there (codePoint os)) (λ q. no .0 e (inr q)))),
-      λ p. no .1 (λ s. neither p s),
-    )
-  where
-    go : (t : Bool) → (t ≡ true → ⊥) → not t ≡ true
-    go true f = absurd (f refl)
-    go false f = refl
+    nor-exactly (empty os) (there (codePoint os)) (empty-exactly os) (gone-exactly (codePoint os))
 
-    neither : MalformedField i line → ((field i line ≡ []) ⊎ (there (codePoint (field i line)) ≡ true)) → ⊥
-    neither p (inl e) = p .0 e
-    neither p (inr e) = true≢false (sym e ∙ ap there (p .1))
-
-reading-renders : (line : List ℕ)
-    → RendersEach (readingChecks line) (readingFaults line)
+reading-renders : (line : List ℕ) → RendersEach (readingChecks line) (readingFaults line)
 reading-renders line =
     let long = renders-plain _ 20 (ltb-exactly 512 (length line)) in
     let cut = renders-plain _ 21 (fields-exactly line) in
@@ -135,16 +120,7 @@ surrogate-said line p s = (found, given)
         let one = all-fails scalar (said-codes p) (sym (all-three p) ∙ not-true _ e) in
         let c = one .0 in
         let low = leb-true c 0x10FFFF (all-in (λ c. leb c 0x10FFFF) (said-codes p) (says-most line p s) c (one .1)) in
-        let out = false-exactly (scalar c) (scalar-exactly c) .0 (one .2) in
-        (c, one .1, inside c low out)
-      where
-        inside : (c : ℕ) → c ≤ 0x10FFFF → ((c ≤ 0x10FFFF) × (Surrogate c → ⊥) → ⊥) → Surrogate c
-        inside c low out = go (leb 0xD800 c) (leb c 0xDFFF) refl refl
-          where
-            go : (a b : Bool) → leb 0xD800 c ≡ a → leb c 0xDFFF ≡ b → Surrogate c
-            go true true e f = (leb-true 0xD800 c e, leb-true c 0xDFFF f)
-            go false b e f = absurd (out (low, λ g. true≢false (sym (le-leb 0xD800 c (g .0)) ∙ e)))
-            go true false e f = absurd (out (low, λ g. true≢false (sym (le-leb c 0xDFFF (g .1)) ∙ f)))
+        (c, one .1, unscalar-exactly c low .0 (one .2))
 
     given : ((c : ℕ) × In c (said-codes p) × Surrogate c)
         → not (scalar (p .code) && scalar (p .title) && all scalar (p .parts)) ≡ true

@@ -104,6 +104,11 @@ module _ {A : Type 0} where
       was true e = absurd (true≢false (sym e))
       was false e = refl
 
+-- neither of two holds; of the second what it says if it doesn't
+pub nor-exactly : {A B : Type 0} (a b : Bool) → (a ≡ true) ↔ A → (not b ≡ true) ↔ B → (not (a || b) ≡ true) ↔ ((A → ⊥) × B)
+nor-exactly true b p q = (λ e. absurd (true≢false (sym e)), λ h. absurd (h .0 (p .0 refl)))
+nor-exactly false b p q = (λ e. (λ x. true≢false (sym (p .1 x)), q .0 e), λ h. q .1 (h .1))
+
 -- ---- options and lists
 
 module _ {A : Type 0} where

@@ -1,17 +1,21 @@
--- A row of checks gives the first that applies; the refusals of a table and of a call on texts are such rows.
+-- A row of checks gives the first that applies; the refusals of a table and of a call on texts are such rows. What holds of all
+-- that its checks may give holds of what the row gives.
 -- Assumes nothing.
-use mathlib.Core.Path.{_≡_, sym, ap, _∙_, refl}
-use Prim.Native.Nat.{ℕ, zero, suc}
+use mathlib.Core.Path.{_≡_, sym, ap, _∙_, refl, subst}
+use Prim.Native.Nat.{ℕ, zero, suc, _≤_}
+use native.Mathlib.Omega.{arith}
+use mathlib.Core.Bool.{Bool, true, false}
 use mathlib.Core.Logic.{_↔_}
 use mathlib.Core.Option.{Option, none, some}
 use mathlib.Core.List.{List, [], _∷_, _++_}
+use lib.Dec.{ltb}
 use lib.ListN.{length, replicate}
 use Rattle.terms.specs.Lists.{orElse}
-use Rattle.terms.specs.Refusals.{first}
+use Rattle.terms.specs.Refusals.{textMost, refusal, check, first}
 use Rattle.terms.specs.declared.Refusal.{Refusal}
 use Rattle.terms.proofs.Checks.{orElse-assoc, first-append}
 use Rattle.terms.proofs.Tests.{none-some}
-use Rattle.keys.specs.Keys.{PreparedText}
+use Rattle.keys.specs.Keys.{PreparedText, roomFor}
 use Rattle.prepare.specs.Calls.{Lent, Call, lengths, preparedIn, lengthCheck, lengthChecks, tableCheck, collationCheck}
 use Rattle.prepare.specs.Calls.{roomCheck, roomChecks, roomRefusal, callRefusal}
 use Rattle.demands.specs.Demands.{FirstApplies, lengthRow, roomRow, callChecks}
@@ -65,3 +69,42 @@ first-callChecks c =
     (first-append (lengthRow 1 (lengths c)) (table ∷ rooms)
     ∙ rw (first-lengthRow 1 (lengths c), first-roomRow 1 (c .lents) (preparedIn c)))
     ∙ sym (callRefusal-row c)
+
+-- ---- what a check may give
+
+-- every refusal that a check gives is such
+abbrev pub Every : (Refusal → Type 0) → Option Refusal → Type 0
+Every P c = (x : Refusal) → c ≡ some x → P x
+
+module _ (P : Refusal → Type 0) where
+  pub every-none : Every P none
+  every-none x e = absurd (none-some x e)
+
+  pub every-some : (y : Refusal) → P y → Every P (some y)
+  every-some y h x e = let same : y ≡ x = cc in subst P same h
+
+  pub every-check : (b : Bool) (n p d : ℕ) → P (refusal n p d) → Every P (check b n p d)
+  every-check true n p d h = every-some (refusal n p d) h
+  every-check false n p d h = every-none
+
+  pub every-else : (c d : Option Refusal) → Every P c → Every P d → Every P (orElse c d)
+  every-else none d a b = b
+  every-else (some y) d a b = a
+
+  -- 2, from place p on
+  pub every-length : (p : ℕ) (ns : List ℕ) → ((q d : ℕ) → p ≤ q → P (refusal 2 q d)) → Every P (lengthChecks p ns)
+  every-length p [] h = every-none
+  every-length p (n ∷ ns) h =
+      every-else (lengthCheck p n) (lengthChecks (suc p) ns)
+      (every-check (ltb textMost n) 2 p n (h p n (omega arith)))
+      (every-length (suc p) ns (λ q d l. h q d (omega arith)))
+
+  -- 8, from place p on
+  pub every-room : (p : ℕ) (ls : List Lent) (ps : List PreparedText) → ((q d : ℕ) → p ≤ q → P (refusal 8 q d))
+      → Every P (roomChecks p ls ps)
+  every-room p [] ps h = every-none
+  every-room p (l ∷ ls) [] h = every-none
+  every-room p (l ∷ ls) (k ∷ ps) h =
+      every-else (roomCheck p (length (l .buffer)) k) (roomChecks (suc p) ls ps)
+      (every-check (ltb (length (l .buffer)) (roomFor k)) 8 p (roomFor k) (h p (roomFor k) (omega arith)))
+      (every-room (suc p) ls ps (λ q d l. h q d (omega arith)))

@@ -1,7 +1,7 @@
 -- The checks of a table render its faults: 3 to 7 in words.
 -- Assumes nothing.
 use mathlib.Core.Path.{_≡_, refl, sym, ap, _∙_}
-use Prim.Native.Nat.{ℕ, zero, suc, _<_}
+use Prim.Native.Nat.{ℕ, zero, suc, _≤_, _<_}
 use native.Mathlib.Omega.{arith}
 use mathlib.Core.Bool.{Bool, true, false, not, _&&_}
 use mathlib.Core.Logic.{inl, inr, _↔_}
@@ -9,7 +9,7 @@ use mathlib.Core.Option.{Option, none, some}
 use mathlib.Core.List.{List}
 use lib.Dec.{leb, ltb, eqb}
 use lib.ListN.{length, getD}
-use borrow.Author.Tests.{leb-true, le-leb}
+use borrow.Author.Tests.{leb-true, le-leb, not-false}
 use Rattle.terms.specs.CodePoints.{scalar}
 use Rattle.terms.specs.Lists.{lowest, orElse, when}
 use Rattle.terms.proofs.Tests.{both, join, none-some}
@@ -40,6 +40,12 @@ pub scalar-exactly : (c : ℕ) → (scalar c ≡ true) ↔ Scalar c
 scalar-exactly c =
     and-exactly (leb c 0x10FFFF) (not (leb 0xD800 c && leb c 0xDFFF)) (leb-exactly c 0x10FFFF)
     (not-exactly (leb 0xD800 c && leb c 0xDFFF) (surrogate-exactly c))
+
+-- up to 10FFFF, what is not scalar is a surrogate
+pub unscalar-exactly : (c : ℕ) → c ≤ 0x10FFFF → (scalar c ≡ false) ↔ Surrogate c
+unscalar-exactly c low =
+    rw (le-leb c 0x10FFFF low)
+    (λ e. surrogate-exactly c .0 (not-false _ e), λ h. ap not (surrogate-exactly c .1 h))
 
 -- ---- entries
 
