@@ -1,4 +1,4 @@
--- Refusals, the limits and numbers of document 01, and answers in the paper's numbers.
+-- Refusals, the limits and numbers of documents 01 and 02, and answers in the papers' numbers.
 -- Assumes nothing.
 use Prim.Native.Nat.{ℕ}
 use mathlib.Core.Bool.{Bool}
@@ -12,7 +12,7 @@ use Rattle.terms.specs.declared.Check.the-variants.{Passed, Refused}
 
 -- ---- limits
 
--- the longest text that is taken, in octets (2)
+-- the longest text that is taken, in octets (2, 13)
 abbrev pub textMost : ℕ
 textMost = 4096
 
@@ -36,7 +36,8 @@ levelsMost = 8
 abbrev pub fullMost : ℕ
 fullMost = 32
 
--- the most octets of the expansion of one character over an accepted table (demand 3)
+-- the most octets of the expansion of one character over an accepted table (demand 3), and of a key for each octet of its
+-- text (13)
 abbrev pub expansionMost : ℕ
 expansionMost = 128
 

@@ -1,4 +1,4 @@
-// The terms that all crates share (document 01): the kinds of number that must not be mixed, refusals, limits.
+// The terms that all crates share (documents 01 and 02): the kinds of number that must not be mixed, refusals, limits.
 //
 // Three functions stand here, since several crates ask them: whether a number is scalar, which collation a number names, and
 // whether a collation reads the table.
@@ -15,7 +15,10 @@ pub struct KeyPosition(pub usize);
 // A position in a text, in octets from its start.
 pub struct TextPosition(pub usize);
 
-// Why a call is refused: the number of document 01's table, which text (1 or 2, 0 neither), and the detail.
+// A position in a slice of records, in octets from its start.
+pub struct RecordPosition(pub usize);
+
+// Why a call is refused: its number in documents 01 and 02, which text (1 or 2, 0 neither), and the detail.
 pub struct Refusal {
     pub number: u32,
     pub place: u32,
@@ -69,6 +72,11 @@ pub const EXPANSION_MOST: usize = 128;
 // The longest line of UnicodeData.txt that is taken, in octets.
 pub const LINE_MOST: usize = 512;
 
+// The kinds of record.
+pub const KIND_TEXT: u32 = 1;
+
+pub const KIND_KEY: u32 = 2;
+
 // The refusal numbers of document 01 and of the requests after it.
 pub const REFUSED_COLLATION: u32 = 1;
 
@@ -87,6 +95,15 @@ pub const REFUSED_LEVEL: u32 = 7;
 pub const REFUSED_KEY_ROOM: u32 = 8;
 
 pub const REFUSED_NO_TAB: u32 = 9;
+
+pub const REFUSED_RECORD_LENGTH: u32 = 11;
+
+pub const REFUSED_RECORD_KIND: u32 = 12;
+
+pub const REFUSED_RECORD_BODY: u32 = 13;
+
+// 8 again: no room for a whole record.
+pub const REFUSED_RECORD_ROOM: u32 = 8;
 
 pub const REFUSED_LINE_LENGTH: u32 = 20;
 
