@@ -1,0 +1,11 @@
+pub mod LittleEndian
+pub mod Fitting
+pub mod Judging
+pub mod Framing
+pub mod Lengths
+pub mod Putting
+pub mod ReadsWritten
+pub mod WritesRead
+pub mod Injective
+pub mod Octets
+pub mod Cases
