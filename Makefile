@@ -3,6 +3,8 @@
 .PHONY: help pairs lib check test bench clean
 CRATE ?=
 export CRATE
+# the crates of the C interface, each an archive of its own that the library joins
+EXPORTS := mz_tables mz_texts mz_records
 CRATES := sed -n 's/^\([a-z0-9_]*\):.*/\1/p' crates.txt
 
 help: ## print these lines
@@ -17,8 +19,10 @@ pairs: ## prove and build the program `pairs`, and run it on the sample
 lib: ## prove the library, and leave it for C and Rust in build/lib
 	@mkdir -p build/lib
 	@echo 'proving and building the library (a few minutes the first time; build/lib.log says more)'
-	@rt staticlib mz_tables > build/lib.log 2>&1 && rt staticlib mz_texts >> build/lib.log 2>&1 || { tail -n 20 build/lib.log; exit 1; }
-	@bash bindings/join.sh mz_tables mz_texts
+	@for crate in $(EXPORTS); do \
+		rt staticlib $$crate || exit 1; \
+	done > build/lib.log 2>&1 || { tail -n 20 build/lib.log; exit 1; }
+	@bash bindings/join.sh $(EXPORTS)
 	@echo 'build/lib/libmundeziwa.a and build/lib/libmundeziwa.so; the headers are in include, the Rust crate is bindings/rust'
 
 check: ## with CRATE=name: prove that crate and those that it needs
@@ -29,13 +33,15 @@ check: ## with CRATE=name: prove that crate and those that it needs
 test: ## prove every crate, try every must-fail edit, run every program and test; ends with `N passed, 0 failed`
 	@bash tests/run.sh
 
-bench: lib ## names and the search beside other programs, in one run
+bench: lib ## names, records and the search beside other programs, in one run
 	@mkdir -p build/bench
 	@rt staticlib bench_find > build/bench/bench_find.log 2>&1 || { tail -n 20 build/bench/bench_find.log; exit 1; }
 	@bash bench/build.sh
 	@./build/bench/occurrence
 	@echo
 	@./build/bench/names
+	@echo
+	@./build/bench/records
 
 clean: ## remove all that the others make: target, build, and the cargo folders
 	@rm -rf target build bindings/rust/target tests/*/target bench/*/target

@@ -7,8 +7,9 @@
  * number of threads may call it at once. All memory is the caller's, lent for the call alone.
  *
  * SLICES. A slice is a pointer and the number of its ELEMENTS (octets of a text, 32-bit numbers of a table). Where the number
- * is 0 the pointer may be anything that is aligned, but not NULL. Slices that are written (keys; entries and pool of
- * mz_add_line; the answer) must overlap no other argument; those that are only read may overlap each other.
+ * is 0 the pointer may be anything that is aligned, but not NULL. Slices that are written (key buffers; entries and pool of
+ * mz_add_line; the records of mz_write_text and mz_write_key; the answer) must overlap no other argument; those that are only
+ * read may overlap each other.
  *
  * TABLE. entries holds MZ_ENTRY_WIDTH numbers for each entry: code point, titlecase (the code point itself if none), start of its
  * decomposition in the pool, number of code points there. Entries ascend by code point; a start is the sum of all earlier counts.
@@ -53,6 +54,10 @@ extern "C" {
 #define MZ_LINE_MOST 512          /* octets of a line of UnicodeData.txt */
 #define MZ_KEY_PER_OCTET_MOST 128 /* octets of a key for each octet of its text */
 
+/* Kinds of record. */
+#define MZ_KIND_TEXT 1 /* a text */
+#define MZ_KIND_KEY 2  /* a key, with its collation, whether the text was valid under it, and the text's length */
+
 /* Refusals of a call on texts, in their order; 3 to 7 are those of mz_check_table. The place is which text for 2 and 8, else 0.
  * The detail is for 2 the text's length; for 4, 5 and 7 the lowest such entry, counted from 0 (for 5 the number of entries, if
  * no entry is at fault and the pool is too long); for 6 the lowest such index; for 8 the length needed; else 0. */
@@ -76,6 +81,13 @@ extern "C" {
 #define MZ_REFUSED_SURROGATE 25   /* a mapping with a surrogate in field 0 or 5 or as the titlecase that is taken */
 #define MZ_REFUSED_ORDER 26       /* the code point is not above the last */
 #define MZ_REFUSED_NO_ROOM 27     /* no room for the entry or its parts, or a limit of a table passed */
+
+/* Refusals of calls on records; place is 0. Reading has 11, 12 and 13, writing 13 and 8, each in this order. The detail is for
+ * 8 the length of the whole record, else 0. */
+#define MZ_REFUSED_RECORD_LENGTH 11 /* fewer octets left than four or than the length says, or a length below 2 */
+#define MZ_REFUSED_RECORD_KIND 12   /* the kind is unknown */
+#define MZ_REFUSED_RECORD_BODY 13   /* an item that no record may hold: see RECORDS below */
+#define MZ_REFUSED_RECORD_ROOM 8    /* no room for the whole record (the number is also that of MZ_REFUSED_KEY_ROOM) */
 
 /* The number of the interface that the library has: MZ_INTERFACE of the header that it was built with. */
 uint32_t mz_interface(void);
@@ -145,6 +157,36 @@ void mz_add_line(uint64_t entries_used, uint64_t pool_used, uint64_t next,
                  uint32_t *entries, size_t entries_length,
                  uint32_t *pool, size_t pool_length,
                  uint64_t answer[6]);
+
+/* RECORDS. Texts and keys can be kept in files as records, one after another. A record is a length of four octets (of what
+ * follows it), a kind of two octets, and a body; numbers have their low octet first. The body of a text (MZ_KIND_TEXT) is the
+ * text: at most MZ_TEXT_MOST octets. The body of a key (MZ_KIND_KEY) is the collation (one octet: 1, 2 or 3), 1 if the text
+ * was valid under it else 0 (one octet; always 1 under 1 and 2), the text's length (two octets; at most MZ_TEXT_MOST), and the
+ * key: as long as the text where the flag is 0 and under 1 and 2, else at most MZ_KEY_PER_OCTET_MOST times as long. What a key
+ * says of its text is not compared with any text, nor are the key's octets looked at.
+ *
+ * A position is the number of octets before it in the slice of records; the first record is at 0. Any position may be given. */
+
+/* Reads the record at a position. The next one is at the end of its octets.
+ * answer: number, place (0), detail (0); what is there: 0 the end of the slice (position is records_length), MZ_KIND_TEXT or
+ * MZ_KIND_KEY; of a key the collation, the flag and the text's length, else 0, 0, 0; start and end in the slice of the octets of
+ * the text or the key, 0 and 0 at the end of the slice. Refusals 11, 12, 13. */
+void mz_read_record(const uint8_t *records, size_t records_length, uint64_t position,
+                    uint64_t answer[9]);
+
+/* Writes a text as a record at a position; the octets before and after the record stay.
+ * answer: number, place (0), detail; the position after the record. Refusals 13, 8. */
+void mz_write_text(const uint8_t *text, size_t text_length,
+                   uint8_t *records, size_t records_length, uint64_t position,
+                   uint64_t answer[4]);
+
+/* Writes a key as a record at a position, as mz_write_text does. The three numbers may be any: those that no record can hold
+ * are refused with 13. After mz_prepare they are its collation, answer[3], and the length of the text; the key is the first
+ * answer[5] octets of the key buffer where answer[6] is 1, and else the text. */
+void mz_write_key(uint32_t collation, uint64_t valid, uint64_t text_length,
+                  const uint8_t *key, size_t key_length,
+                  uint8_t *records, size_t records_length, uint64_t position,
+                  uint64_t answer[4]);
 
 #ifdef __cplusplus
 }

@@ -1,5 +1,5 @@
-/* The C interface as a C program sees it: every call of both headers, over table T of document 01. Exits 1 at the first answer that is
- * not the paper's. */
+/* The C interface as a C program sees it: every call of both headers, over table T of document 01, and on records by document 02.
+ * Exits 1 at the first answer that is not the documents'. */
 #include "mundeziwa.h"
 #include "mundeziwa_accepted.h"
 #include <stdio.h>
@@ -24,7 +24,7 @@ static void expect(const char *call, const uint64_t *answer, const uint64_t *exp
     fprintf(stderr, "%s answered", call);
     for (size_t i = 0; i < n; i++)
         fprintf(stderr, " %llu (%llu)", (unsigned long long)answer[i], (unsigned long long)expected[i]);
-    fprintf(stderr, ", in brackets what document 01 says\n");
+    fprintf(stderr, ", in brackets what the documents say\n");
     exit(1);
 }
 
@@ -32,7 +32,7 @@ static void expect(const char *call, const uint64_t *answer, const uint64_t *exp
 
 static void expect_octets(const char *what, const uint8_t *octets, const char *expected, size_t n) {
     if (memcmp(octets, expected, n) != 0) {
-        fprintf(stderr, "%s: other octets than document 01's\n", what);
+        fprintf(stderr, "%s: other octets than the documents'\n", what);
         exit(1);
     }
 }
@@ -95,12 +95,65 @@ static void build_table(void) {
     EXPECT("mz_add_line of the same code point", answer, MZ_REFUSED_ORDER, 0, 0, 1, 2, 0xCA);
 }
 
+/* The text C3 A9, and its key. */
+#define TEXT_RECORD "\x04\0\0\0\x01\0\xC3\xA9"
+#define KEY_RECORD "\x09\0\0\0\x02\0\x03\x01\x02\0\x45\xCC\x81"
+
+static void write_records(void) {
+    uint8_t records[22];
+    uint64_t answer[4];
+    memset(records, 0xAA, sizeof records);
+    mz_write_text(TEXT("\xC3\xA9"), records, sizeof records, 0, answer);
+    EXPECT("mz_write_text", answer, 0, 0, 0, 8);
+    mz_write_key(MZ_UNICODE_CASEMAP, 1, 2, TEXT("\x45\xCC\x81"), records, sizeof records, 8, answer);
+    EXPECT("mz_write_key", answer, 0, 0, 0, 21);
+    expect_octets("a text and its key", records, TEXT_RECORD KEY_RECORD "\xAA", sizeof records);
+
+    static const uint8_t long_text[MZ_TEXT_MOST + 1];
+    mz_write_text(long_text, sizeof long_text, records, 0, 0, answer);
+    EXPECT("mz_write_text of a long text", answer, MZ_REFUSED_RECORD_BODY, 0, 0, 0);
+    mz_write_text(TEXT("\xC3\xA9"), records, sizeof records, 15, answer);
+    EXPECT("mz_write_text without room", answer, MZ_REFUSED_RECORD_ROOM, 0, 8, 0);
+    mz_write_text(TEXT(""), records, sizeof records, 23, answer);
+    EXPECT("mz_write_text past the end", answer, MZ_REFUSED_RECORD_ROOM, 0, 6, 0);
+    mz_write_key(4, 1, 2, TEXT("\x45\xCC\x81"), records, sizeof records, 0, answer);
+    EXPECT("mz_write_key under collation 4", answer, MZ_REFUSED_RECORD_BODY, 0, 0, 0);
+    mz_write_key(MZ_OCTET, 1, 2, TEXT("\x45\xCC\x81"), records, sizeof records, 0, answer);
+    EXPECT("mz_write_key of another length under i;octet", answer, MZ_REFUSED_RECORD_BODY, 0, 0, 0);
+    mz_write_key(MZ_UNICODE_CASEMAP, 1, 2, TEXT("\x45\xCC\x81"), records, sizeof records, 10, answer);
+    EXPECT("mz_write_key without room", answer, MZ_REFUSED_RECORD_ROOM, 0, 13, 0);
+    expect_octets("the slice after refusals", records, TEXT_RECORD KEY_RECORD "\xAA", sizeof records);
+}
+
+static void read_records(void) {
+    uint64_t answer[9];
+    mz_read_record(TEXT(TEXT_RECORD KEY_RECORD), 0, answer);
+    EXPECT("mz_read_record of a text", answer, 0, 0, 0, MZ_KIND_TEXT, 0, 0, 0, 6, 8);
+    mz_read_record(TEXT(TEXT_RECORD KEY_RECORD), 8, answer);
+    EXPECT("mz_read_record of a key", answer, 0, 0, 0, MZ_KIND_KEY, MZ_UNICODE_CASEMAP, 1, 2, 18, 21);
+    mz_read_record(TEXT(TEXT_RECORD KEY_RECORD), 21, answer);
+    EXPECT("mz_read_record at the end", answer, 0, 0, 0, 0, 0, 0, 0, 0, 0);
+
+    mz_read_record(TEXT(TEXT_RECORD KEY_RECORD), 22, answer);
+    EXPECT("mz_read_record past the end", answer, MZ_REFUSED_RECORD_LENGTH, 0, 0, 0, 0, 0, 0, 0, 0);
+    mz_read_record(TEXT("\x04\0\0\0\x01\0\xC3"), 0, answer);
+    EXPECT("mz_read_record of one cut off", answer, MZ_REFUSED_RECORD_LENGTH, 0, 0, 0, 0, 0, 0, 0, 0);
+    mz_read_record(TEXT("\x01\0\0\0\x01\0"), 0, answer);
+    EXPECT("mz_read_record of a length below 2", answer, MZ_REFUSED_RECORD_LENGTH, 0, 0, 0, 0, 0, 0, 0, 0);
+    mz_read_record(TEXT("\x04\0\0\0\x03\0\xC3\xA9"), 0, answer);
+    EXPECT("mz_read_record of kind 3", answer, MZ_REFUSED_RECORD_KIND, 0, 0, 0, 0, 0, 0, 0, 0);
+    mz_read_record(TEXT("\x09\0\0\0\x02\0\x01\x01\x02\0\x45\xCC\x81"), 0, answer);
+    EXPECT("mz_read_record of a key of another length under i;octet", answer, MZ_REFUSED_RECORD_BODY, 0, 0, 0, 0, 0, 0, 0, 0);
+}
+
 int main(void) {
     check_interface();
     check_tables();
     prepare_texts();
     compare_texts();
     build_table();
-    puts("the C interface answers as document 01 says");
+    write_records();
+    read_records();
+    puts("the C interface answers as the documents say");
     return 0;
 }

@@ -37,8 +37,8 @@ interface=$(sed -n 's/^#define MZ_INTERFACE //p' include/mundeziwa.h)
 readelf -d "$LIB/libmundeziwa.so" | grep -qF "soname: [libmundeziwa.so.$interface]" || fail 'the shared object has another SONAME'
 readelf -d build/c_calls_shared | grep -qF "[libmundeziwa.so.$interface]" || fail 'a program asks for another shared object'
 
-# the header's collations, limits and refusals are those of crates/terms, and the width of an entry that of crates/table (9 is the
-# program's alone; the interface's number is compared above)
+# the header's collations, limits, kinds of record and refusals are those of crates/terms, and the width of an entry that of
+# crates/table (9 is the program's alone; the interface's number is compared above)
 header=$(awk '$1 == "#define" && NF > 2 { sub("MZ_", "", $2); print $2, $3 }' include/mundeziwa.h | sort)
 terms=$(awk '$1 == "pub" && $2 == "const" { print $3, $6 }' crates/terms/src/lib.rt crates/table/src/layout.rt | tr -d ':;' \
     | sed 's/^EXPANSION_MOST /KEY_PER_OCTET_MOST /' | grep -v '^REFUSED_NO_TAB ' | sort)

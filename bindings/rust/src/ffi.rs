@@ -53,6 +53,29 @@ extern "C" {
         pool_length: usize,
         answer: *mut [u64; 6],
     );
+
+    pub fn mz_read_record(records: *const u8, records_length: usize, position: u64, answer: *mut [u64; 9]);
+
+    pub fn mz_write_text(
+        text: *const u8,
+        text_length: usize,
+        records: *mut u8,
+        records_length: usize,
+        position: u64,
+        answer: *mut [u64; 4],
+    );
+
+    pub fn mz_write_key(
+        collation: u32,
+        valid: u64,
+        text_length: u64,
+        key: *const u8,
+        key_length: usize,
+        records: *mut u8,
+        records_length: usize,
+        position: u64,
+        answer: *mut [u64; 4],
+    );
 }
 
 /// Declares calls on one text.
