@@ -32,6 +32,15 @@ use Rattle.search.specs.Substring.{substringOutcome, soughtValues}
 use Rattle.search.proofs.substring.Kinds as substring-kinds
 use Rattle.search.proofs.substring.Reads as substring
 use Rattle.search.proofs.substring_accepted.Reads as substring-accepted
+use Rattle.records.specs.Items.{ofText, ofKey}
+use Rattle.records.specs.Writing.{Writes}
+use Rattle.records.proofs.read_record.Kinds as read-record-kinds
+use Rattle.records.proofs.read_record.Reads as read-record
+use Rattle.records.proofs.write_text.Kinds as write-text-kinds
+use Rattle.records.proofs.write_text.Reads as write-text
+use Rattle.records.proofs.write_key.Kinds as write-key-kinds
+use Rattle.records.proofs.write_key.Reads as write-key
+use Rattle.demands.specs.Records.{ReadCall}
 use Rattle.builder.specs.Builder.{built, Added}
 use Rattle.builder.proofs.add_line.Kinds as add-line-kinds
 use Rattle.builder.proofs.add_line.Reads as add-line
@@ -137,3 +146,38 @@ module _ (κs : Lfts 6) (a : Dens κs order-kinds.ps) where
     pub substring-accepted-contract : substring-accepted.Learnt κs a r s
         → Called substringOutcome soughtValues (two κs a) r (s .1 .1 .1 .1 .1 .0 .now ∷ s .1 .1 .1 .1 .1 .1 .0 .now ∷ [])
     substring-accepted-contract h = h
+
+-- ---- records
+
+-- `read_record(records, position)`
+module _ (κs : Lfts 1) (a : Dens κs read-record-kinds.ps) where
+  pub read-record-asks-nothing : read-record.Asked κs a
+  read-record-asks-nothing = tt
+
+  pub read-record-contract : (r : resT read-record-kinds.r κs .Denot)
+      (s : AtExit (endedOf 1 read-record-kinds.ps read-record-kinds.r) κs)
+      → read-record.Learnt κs a r s
+      → ReadCall (a .0 .now) (a .1 .0 .0) r
+  read-record-contract r s h = h
+
+-- `write_text(text, records, position)`
+module _ (κs : Lfts 2) (a : Dens κs write-text-kinds.ps) where
+  pub write-text-asks-nothing : write-text.Asked κs a
+  write-text-asks-nothing = tt
+
+  pub write-text-contract : (r : resT write-text-kinds.r κs .Denot)
+      (s : AtExit (endedOf 2 write-text-kinds.ps write-text-kinds.r) κs)
+      → write-text.Learnt κs a r s
+      → Writes (ofText (a .0 .now)) (a .1 .1 .0 .0) (a .1 .0 .now) r (s .1 .0 .now)
+  write-text-contract r s h = h
+
+-- `write_key(fields, key, records, position)`
+module _ (κs : Lfts 2) (a : Dens κs write-key-kinds.ps) where
+  pub write-key-asks-nothing : write-key.Asked κs a
+  write-key-asks-nothing = tt
+
+  pub write-key-contract : (r : resT write-key-kinds.r κs .Denot)
+      (s : AtExit (endedOf 2 write-key-kinds.ps write-key-kinds.r) κs)
+      → write-key.Learnt κs a r s
+      → Writes (ofKey (a .0) (a .1 .0 .now)) (a .1 .1 .1 .0 .0) (a .1 .1 .0 .now) r (s .1 .1 .0 .now)
+  write-key-contract r s h = h

@@ -22,6 +22,15 @@ use Rattle.mz_tables.proofs.mz_check_table.Kinds as mz-check-table-kinds
 use Rattle.mz_tables.proofs.mz_check_table.Reads as mz-check-table
 use Rattle.mz_tables.proofs.mz_add_line.Kinds as mz-add-line-kinds
 use Rattle.mz_tables.proofs.mz_add_line.Reads as mz-add-line
+use Rattle.records.specs.Items.{rules, ofText, ofKey}
+use Rattle.records.specs.Reading.{readAt, readingOutcome}
+use Rattle.mz_records.specs.Promises.{fieldsOf, WritesRow}
+use Rattle.mz_records.proofs.mz_read_record.Kinds as mz-read-record-kinds
+use Rattle.mz_records.proofs.mz_read_record.Reads as mz-read-record
+use Rattle.mz_records.proofs.mz_write_text.Kinds as mz-write-text-kinds
+use Rattle.mz_records.proofs.mz_write_text.Reads as mz-write-text
+use Rattle.mz_records.proofs.mz_write_key.Kinds as mz-write-key-kinds
+use Rattle.mz_records.proofs.mz_write_key.Reads as mz-write-key
 use Rattle.mz_texts.specs.Promises.{RowAnswered}
 use Rattle.mz_texts.proofs.one_text.mz_prepare.Kinds as mz-prepare-kinds
 use Rattle.mz_texts.proofs.one_text.mz_prepare.Reads as mz-prepare
@@ -117,3 +126,39 @@ module _ (κs : Lfts 7) (a : Dens κs mz-equal-kinds.ps) where
 
     pub mz-substring-accepted-contract : mz-substring-accepted.Learnt κs a r s → answered 5 soughtValues
     mz-substring-accepted-contract h = h
+
+-- ---- records
+
+-- `mz_read_record(records, position, answer)`
+module _ (κs : Lfts 2) (a : Dens κs mz-read-record-kinds.ps) where
+  pub mz-read-record-asks-nothing : mz-read-record.Asked κs a
+  mz-read-record-asks-nothing = tt
+
+  pub mz-read-record-contract : (r : resT mz-read-record-kinds.r κs .Denot)
+      (s : AtExit (endedOf 2 mz-read-record-kinds.ps mz-read-record-kinds.r) κs)
+      → mz-read-record.Learnt κs a r s
+      → s .1 .1 .0 .now ≡ row 6 (readingOutcome (readAt rules (a .0 .now) (a .1 .0)))
+  mz-read-record-contract r s h = h
+
+-- `mz_write_text(text, records, position, answer)`
+module _ (κs : Lfts 3) (a : Dens κs mz-write-text-kinds.ps) where
+  pub mz-write-text-asks-nothing : mz-write-text.Asked κs a
+  mz-write-text-asks-nothing = tt
+
+  pub mz-write-text-contract : (r : resT mz-write-text-kinds.r κs .Denot)
+      (s : AtExit (endedOf 3 mz-write-text-kinds.ps mz-write-text-kinds.r) κs)
+      → mz-write-text.Learnt κs a r s
+      → WritesRow (ofText (a .0 .now)) (a .1 .1 .0) (a .1 .0 .now) (s .1 .1 .1 .0 .now) (s .1 .0 .now)
+  mz-write-text-contract r s h = h
+
+-- `mz_write_key(collation, valid, text_length, key, records, position, answer)`
+module _ (κs : Lfts 3) (a : Dens κs mz-write-key-kinds.ps) where
+  pub mz-write-key-asks-nothing : mz-write-key.Asked κs a
+  mz-write-key-asks-nothing = tt
+
+  pub mz-write-key-contract : (r : resT mz-write-key-kinds.r κs .Denot)
+      (s : AtExit (endedOf 3 mz-write-key-kinds.ps mz-write-key-kinds.r) κs)
+      → mz-write-key.Learnt κs a r s
+      → WritesRow (ofKey (fieldsOf (a .0) (a .1 .0) (a .1 .1 .0)) (a .1 .1 .1 .0 .now)) (a .1 .1 .1 .1 .1 .0)
+      (a .1 .1 .1 .1 .0 .now) (s .1 .1 .1 .1 .1 .1 .0 .now) (s .1 .1 .1 .1 .0 .now)
+  mz-write-key-contract r s h = h

@@ -32,19 +32,24 @@ some-same x y e = cc
 detail-of : {n m d e : ℕ} → refusal n 0 d ≡ refusal m 0 e → d ≡ e
 detail-of q = ap (λ (r : Refusal). r .detail) q
 
--- a check by a test, with detail 0
-pub renders-plain : (b : Bool) (n : ℕ) {A : Type 0} → (b ≡ true) ↔ A → Renders (check b n 0 0) (plain n A)
-renders-plain true n h = record {
-  numbered = λ x e. let is = some-same (refusal n 0 0) x e in rw (← is);
+-- a check by a test, with its detail
+pub renders-check : (b : Bool) (n m : ℕ) {A : Type 0} → (b ≡ true) ↔ A
+    → Renders (check b n 0 m) (fault n (λ d. (d ≡ m) × A))
+renders-check true n m h = record {
+  numbered = λ x e. let is = some-same (refusal n 0 m) x e in rw (← is);
   exactly = λ d. (
-    λ e. (sym (detail-of (some-same (refusal n 0 0) (refusal n 0 d) e)), h .0 refl),
+    λ e. (sym (detail-of (some-same (refusal n 0 m) (refusal n 0 d) e)), h .0 refl),
     λ p. rw (p .0),
   );
 }
-renders-plain false n h = record {
+renders-check false n m h = record {
   numbered = λ x e. absurd (none-some x e);
   exactly = λ d. (λ e. absurd (none-some _ e), λ p. absurd (true≢false (sym (h .1 (p .1)))));
 }
+
+-- and with detail 0
+pub renders-plain : (b : Bool) (n : ℕ) {A : Type 0} → (b ≡ true) ↔ A → Renders (check b n 0 0) (plain n A)
+renders-plain b n h = renders-check b n 0 h
 
 -- a check by where a fault was found, which is its detail
 pub renders-at : (n : ℕ) (o : Option ℕ) {at : ℕ → Type 0} → ((i : ℕ) → (o ≡ some i) ↔ at i) → Renders (refusedAt n o) (fault n at)

@@ -1,6 +1,8 @@
 pub mod Reflect
 pub mod FaultRows
+pub mod Storing
 pub mod TableFaults
+pub mod KeyFaults
 pub mod LineFaults
 pub mod Rows
 pub mod Numbers
@@ -8,6 +10,10 @@ pub mod Ordering
 pub mod Hits
 pub mod Growing
 pub mod Preparing
+pub mod PutAt
+pub mod RecordCalls
+pub mod RecordFaults
+pub mod RecordRuns
 pub mod Demand1
 pub mod Attained
 pub mod Demand2
@@ -15,4 +21,6 @@ pub mod Demand3
 pub mod Contracts
 pub mod Document01
 pub mod Request01
+pub mod Request02
+pub mod Request02Refusals
 pub mod ContractsC

@@ -2,7 +2,8 @@
 -- Assumes nothing.
 use mathlib.Core.Path.{_≡_, refl, ap, sym, _∙_}
 use Prim.Native.Nat.{ℕ, _≤_, _<_}
-use mathlib.Core.Bool.{Bool, true, false, not, _&&_, _||_, true≢false}
+use native.Mathlib.Omega.{arith}
+use mathlib.Core.Bool.{Bool, true, false, cond, not, _&&_, _||_, true≢false}
 use mathlib.Core.Logic.{_⊎_, inl, inr, _↔_}
 use mathlib.Core.Option.{Option, none, some}
 use mathlib.Core.List.{List, [], _∷_, _++_}
@@ -108,6 +109,39 @@ module _ {A : Type 0} where
 pub nor-exactly : {A B : Type 0} (a b : Bool) → (a ≡ true) ↔ A → (not b ≡ true) ↔ B → (not (a || b) ≡ true) ↔ ((A → ⊥) × B)
 nor-exactly true b p q = (λ e. absurd (true≢false (sym e)), λ h. absurd (h .0 (p .0 refl)))
 nor-exactly false b p q = (λ e. (λ x. true≢false (sym (p .1 x)), q .0 e), λ h. q .1 (h .1))
+
+-- ---- tests that fail
+
+-- a number that is not at most another is above it
+pub above-exactly : (a b : ℕ) → (not (leb a b) ≡ true) ↔ (b < a)
+above-exactly a b =
+    let h = not-exactly (leb a b) (leb-exactly a b) in
+    (λ e. omega (arith, h .0 e), λ l. h .1 (λ m. omega arith))
+
+module _ {A B : Type 0} where
+  -- one of two tests fails
+  pub nand-exactly : (a b : Bool) → (not a ≡ true) ↔ A → (not b ≡ true) ↔ B → (not (a && b) ≡ true) ↔ (A ⊎ B)
+  nand-exactly true b p q = (λ e. inr (q .0 e), is)
+    where
+      is : A ⊎ B → not b ≡ true
+      is (inl x) = absurd (true≢false (sym (p .1 x)))
+      is (inr y) = q .1 y
+  nand-exactly false b p q = (λ e. inl (p .0 refl), λ h. refl)
+
+module _ {A B C : Type 0} where
+  -- the test that a condition chooses fails
+  pub cond-exactly : (a b c : Bool) → (a ≡ true) ↔ A → (not b ≡ true) ↔ B → (not c ≡ true) ↔ C
+      → (not (cond a b c) ≡ true) ↔ ((A × B) ⊎ ((A → ⊥) × C))
+  cond-exactly true b c p q r = (λ e. inl (p .0 refl, q .0 e), is)
+    where
+      is : (A × B) ⊎ ((A → ⊥) × C) → not b ≡ true
+      is (inl h) = q .1 (h .1)
+      is (inr h) = absurd (h .0 (p .0 refl))
+  cond-exactly false b c p q r = (λ e. inr (λ x. true≢false (sym (p .1 x)), r .0 e), is)
+    where
+      is : (A × B) ⊎ ((A → ⊥) × C) → not c ≡ true
+      is (inl h) = absurd (true≢false (sym (p .1 (h .0))))
+      is (inr h) = r .1 (h .1)
 
 -- ---- options and lists
 

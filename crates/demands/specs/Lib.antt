@@ -1,3 +1,4 @@
 pub mod Demands
 pub mod Faults
+pub mod Records
 pub mod Widest
