@@ -3,8 +3,8 @@
 //! The work is done by a library whose every function is proved to meet its contract; this crate checks a mapping table once,
 //! keeps it where nobody can change it, and calls that library. Nothing here panics on any input, and nothing is `unsafe` to
 //! call. (A library of another interface than this crate was written for, linked by mistake, stops the program at the first
-//! table or builder, with both numbers.) What is linked is build/lib/libmundeziwa.a, which `make lib` leaves in the repository;
-//! MUNDEZIWA_LIB_DIR names another folder.
+//! table, builder or record, with both numbers.) What is linked is build/lib/libmundeziwa.a, which `make lib` leaves in the
+//! repository; MUNDEZIWA_LIB_DIR names another folder.
 //!
 //! Each text has a **key**, a string of octets, and texts are compared by their keys alone: records that are filed under the
 //! keys of their names are joined by name. Texts and lines are anything that is octets: `&str`, `String`, `&[u8]`, `Vec<u8>`.
@@ -64,12 +64,15 @@
 //! assert_eq!(hit.text, 1..3);
 //! # Ok::<(), mundeziwa::Refusal>(())
 //! ```
+//!
+//! Texts and keys are kept in files as [`records`].
 #![warn(missing_docs)]
 
 mod builder;
 mod ffi;
 mod keys;
 mod reading;
+pub mod records;
 mod refusal;
 mod refusal_kind;
 mod table;

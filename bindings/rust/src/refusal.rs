@@ -125,6 +125,11 @@ impl fmt::Display for Refusal {
             NoLevel => write!(f, "entry {detail} does not unfold within 8 levels into at most 32 code points"),
             KeyRoom => write!(f, "the key of {} needs a buffer of {detail} octets", self.text()),
             NoTab => write!(f, "the line has no tab"),
+            RecordLength => write!(f, "fewer octets are left than the record's length takes or says, or that length is below 2"),
+            RecordKind => write!(f, "the record's kind is not 1 or 2"),
+            RecordBody => {
+                write!(f, "a text or a text's length is over 4096, a key's body is too short, or its collation, flag or lengths are none that a record has")
+            }
             LineTooLong => write!(f, "the line has over 512 octets"),
             FieldCount => write!(f, "the line has not exactly 14 semicolons"),
             Field0 => write!(f, "field 0 {CODE_POINT} (a byte order mark at the file's start is part of it)"),

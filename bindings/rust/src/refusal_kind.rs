@@ -81,10 +81,17 @@ refusal_kinds! {
     PoolNumber = 6, "pool number";
     /// A code point does not unfold within 8 levels into at most 32 code points.
     NoLevel = 7, "no level";
-    /// A key is longer than the buffer lent for it.
-    KeyRoom = 8, "key buffer too short";
+    /// A key is longer than the buffer lent for it. The C interface also answers it where a record has no room; the writers of
+    /// [`records`](crate::records) make room.
+    KeyRoom = 8, "buffer too short";
     /// A line without a tab: the program `pairs` alone answers it.
     NoTab = 9, "no tab";
+    /// Fewer octets are left than a record's length takes or says, or that length is below 2.
+    RecordLength = 11, "record length";
+    /// The kind of a record is unknown.
+    RecordKind = 12, "record kind";
+    /// A text or a text's length over 4,096 octets, or a key whose collation, flag or lengths no record has.
+    RecordBody = 13, "record body";
     /// A data line is over 512 octets.
     LineTooLong = 20, "line too long";
     /// A data line has not exactly 14 semicolons.

@@ -1,4 +1,5 @@
 //! The numbers of the crate are those of include/mundeziwa.h.
+use mundeziwa::records::{KIND_KEY, KIND_TEXT};
 use mundeziwa::{Collation, RefusalKind, KEY_PER_OCTET_MOST, TEXT_MOST};
 
 const HEADER: &str = include_str!("../../../include/mundeziwa.h");
@@ -28,7 +29,7 @@ fn every_refusal_of_the_header_has_a_kind_and_the_kinds_have_no_more() {
 }
 
 #[test]
-fn collations_and_limits_are_the_headers() {
+fn collations_limits_and_kinds_of_record_are_the_headers() {
     let defined = numbers("MZ_");
     for (name, number) in [
         ("OCTET", Collation::Octet as u64),
@@ -36,6 +37,8 @@ fn collations_and_limits_are_the_headers() {
         ("UNICODE_CASEMAP", Collation::UnicodeCasemap as u64),
         ("TEXT_MOST", TEXT_MOST as u64),
         ("KEY_PER_OCTET_MOST", KEY_PER_OCTET_MOST as u64),
+        ("KIND_TEXT", KIND_TEXT.into()),
+        ("KIND_KEY", KIND_KEY.into()),
     ] {
         assert!(defined.contains(&(name, number)), "{name}");
     }

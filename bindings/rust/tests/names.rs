@@ -60,7 +60,7 @@ fn a_short_buffer_is_told_the_length_that_is_needed() {
     let mut buffer = [0xAA; 2];
     let refusal = table.prepare(UNICODE, b"\xC3\xA9", &mut buffer).unwrap_err();
     assert_eq!((refusal.number(), refusal.place(), refusal.detail()), (8, 1, 3));
-    assert_eq!(refusal.to_string(), "refused 8 (key buffer too short): the key of the text needs a buffer of 3 octets");
+    assert_eq!(refusal.to_string(), "refused 8 (buffer too short): the key of the text needs a buffer of 3 octets");
     assert_eq!(buffer, [0xAA; 2]);
 }
 
