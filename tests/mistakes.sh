@@ -102,4 +102,6 @@ done << 'END'
 4 mistake_field_12_ignored
 5 mistake_marks_sorted
 5 mistake_29_after_24
+6 mistake_record_129_times_taken
+6 mistake_record_8_writes_what_fits
 END

@@ -3,7 +3,7 @@
 #
 # Needs build/lib/libmundeziwa.a, which `make lib` leaves (MUNDEZIWA_LIB_DIR names another directory), cargo, Python 3 and the
 # published UnicodeData.txt (MZ_UNICODE_DATA names another place; Debian's package unicode-data has it). UTF8_TEST may name
-# Markus Kuhn's UTF-8-test.txt, whose lines are then compared too. MZ_SEED and MZ_CASES set the random part. Whatever is missing
+# Markus Kuhn's UTF-8-test.txt, whose lines are then compared too. MZ_SEED and MZ_CASES set the random parts. Whatever is missing
 # is a failure.
 set -euo pipefail
 cd "$(dirname "$0")/.."

@@ -12,7 +12,7 @@ use second::unicode_data::State;
 use std::collections::BTreeMap;
 
 /// With this many cases every refusal must have come up, or the cases would not be what this part says they are.
-const ENOUGH: u64 = 20_000;
+pub const ENOUGH: u64 = 20_000;
 
 /// How often each answer came.
 #[derive(Default)]
@@ -100,8 +100,8 @@ fn one_file(random: &mut Random, tally: &mut Tally, published: &Published) -> Re
 impl Tally {
     /// Prints how often each answer came. It is an error if one that could come never did.
     fn report(&self, cases: u64) -> Result<(), Stop> {
-        println!("  answers to pairs of texts: {}", Tally::list(&self.calls));
-        println!("  answers to lines: {}", Tally::list(&self.lines));
+        println!("  answers to pairs of texts: {}", list(&self.calls));
+        println!("  answers to lines: {}", list(&self.lines));
         println!("  matches: {}, of them with another place in the text than in the key: {}", self.matches, self.runs);
         let calls = (0..=8).filter(|number| !self.calls.contains_key(number));
         let lines = std::iter::once(0).chain(20..=29).filter(|number| !self.lines.contains_key(number));
@@ -111,9 +111,10 @@ impl Tally {
         }
         Ok(())
     }
+}
 
-    fn list(counts: &BTreeMap<u64, u64>) -> String {
-        let counts: Vec<String> = counts.iter().map(|(number, count)| format!("{number}: {count}")).collect();
-        counts.join(", ")
-    }
+/// How often each answer came, in one line.
+pub fn list(counts: &BTreeMap<u64, u64>) -> String {
+    let counts: Vec<String> = counts.iter().map(|(number, count)| format!("{number}: {count}")).collect();
+    counts.join(", ")
 }

@@ -1,7 +1,8 @@
 //! The C calls of the proved library, each made on both copies of its guarded memory. The answers must be the same.
 
-use crate::abi::{mz_add_line, mz_check_table, Comparing, Preparing};
+use crate::abi::{mz_add_line, mz_check_table, mz_read_record, mz_write_key, mz_write_text, Comparing, Preparing};
 use crate::lent::{Lent, SIDES};
+use second::records::Origin;
 use second::unicode_data::State;
 
 /// The answer row before a call: each call must write the whole of it.
@@ -156,6 +157,72 @@ pub fn add_line(state: State, line: &[u8], table: &mut LentTable) -> Result<[u64
     }
     if !lent_line.still_holds(line) || !table.guards_stay() {
         return Err("the library changed its line or wrote outside a slice".to_string());
+    }
+    row(&answer)
+}
+
+/// A slice of records lent to the library for many calls.
+pub fn lend_records(records: &[u8]) -> Lent<u8> {
+    Lent::new(records, OCTET_GUARD)
+}
+
+/// Reads the record at a position.
+pub fn read_record(records: &Lent<u8>, position: u64) -> Result<[u64; 9], String> {
+    let mut answer = new_row::<9>();
+    for side in SIDES {
+        // SAFETY: the pointer is that of a lent slice of the length after it.
+        unsafe { mz_read_record(records.pointer(side), records.length(), position, answer.pointer_mut(side).cast()) }
+    }
+    row(&answer)
+}
+
+/// Writes a text as a record at a position.
+pub fn write_text(text: &[u8], records: &mut Lent<u8>, position: u64) -> Result<[u64; 4], String> {
+    let lent_text = Lent::new(text, OCTET_GUARD);
+    let mut answer = new_row::<4>();
+    let room = records.length();
+    for side in SIDES {
+        // SAFETY: each pointer is that of a lent slice of the length after it.
+        unsafe {
+            mz_write_text(
+                lent_text.pointer(side),
+                lent_text.length(),
+                records.pointer_mut(side),
+                room,
+                position,
+                answer.pointer_mut(side).cast(),
+            );
+        }
+    }
+    if !lent_text.still_holds(text) {
+        return Err("the library changed the text that it wrote".to_string());
+    }
+    row(&answer)
+}
+
+/// Writes a key as a record at a position.
+pub fn write_key(origin: Origin, key: &[u8], records: &mut Lent<u8>, position: u64) -> Result<[u64; 4], String> {
+    let lent_key = Lent::new(key, OCTET_GUARD);
+    let mut answer = new_row::<4>();
+    let room = records.length();
+    for side in SIDES {
+        // SAFETY: each pointer is that of a lent slice of the length after it.
+        unsafe {
+            mz_write_key(
+                origin.collation,
+                origin.valid,
+                origin.text_length,
+                lent_key.pointer(side),
+                lent_key.length(),
+                records.pointer_mut(side),
+                room,
+                position,
+                answer.pointer_mut(side).cast(),
+            );
+        }
+    }
+    if !lent_key.still_holds(key) {
+        return Err("the library changed the key that it wrote".to_string());
     }
     row(&answer)
 }

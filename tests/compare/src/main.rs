@@ -4,8 +4,8 @@
 //! and the inputs in hex. Exit status 2 and a message on standard error if the comparison can't be made: a file or a setting is
 //! at fault, or a part would run no case. A read or write outside a lent slice ends the process by SIGSEGV (see `pages`).
 //!
-//! Variables: MZ_SEED and MZ_CASES (the random part), MZ_UNICODE_DATA and MZ_NFKD (files of part 2), UTF8_TEST (the published
-//! stress test, if it is at hand), MZ_SHORT=yes (part 2 without the scalar code points and NFKD, fewer cases in 3 and 4),
+//! Variables: MZ_SEED and MZ_CASES (the random parts), MZ_UNICODE_DATA and MZ_NFKD (files of part 2), UTF8_TEST (the published
+//! stress test, if it is at hand), MZ_SHORT=yes (part 2 without the scalar code points and NFKD, fewer cases in 3, 4 and 6),
 //! MZ_PARTS (the numbers of the parts to run, all without it).
 
 mod abi;
@@ -13,6 +13,7 @@ mod both;
 mod building;
 mod cases;
 mod example_lines;
+mod example_records;
 mod example_tables;
 mod example_titlecases;
 mod examples;
@@ -26,6 +27,9 @@ mod pages;
 mod published;
 mod published_titlecases;
 mod random;
+mod record_lists;
+mod recording;
+mod records;
 mod settings;
 mod small;
 mod stop;
@@ -47,12 +51,13 @@ struct Part {
     run: fn(&Settings) -> Result<u64, Stop>,
 }
 
-const PARTS: [Part; 5] = [
+const PARTS: [Part; 6] = [
     Part { number: '1', name: "part 1, examples", run: examples::run },
     Part { number: '2', name: "part 2, UnicodeData", run: published::run },
     Part { number: '3', name: "part 3, UTF-8 sequences", run: stress::run },
     Part { number: '4', name: "part 4, small cases", run: small::run },
     Part { number: '5', name: "part 5, random cases", run: cases::run },
+    Part { number: '6', name: "part 6, records", run: records::run },
 ];
 
 /// The parts that a list of numbers names, in their order.
