@@ -17,8 +17,13 @@ readonly COMPILE=(clang -std=c11 -g -O1 -Wall -Wextra -Werror -pedantic -Iinclud
 readonly SANITIZE=-fsanitize=fuzzer,address
 # The library allocates nothing, and the search for leaks needs rights that a container may not give.
 readonly OPTIONS=(-detect_leaks=0 -seed=20071001 -max_len=200 -timeout=60 "-artifact_prefix=$OUT/")
-readonly WRONG=(READS_AFTER_TEXT READS_BEFORE_TEXT READS_AFTER_POOL READS_AFTER_KEY
-    WRITES_ON_REFUSAL ANSWERS_ON_REFUSAL PREFIX_IS_EQUAL)
+# A call and its mistake: the names of a file in tests/fuzz/wrong and of a number there.
+readonly WRONG=(order/READS_AFTER_TEXT order/READS_BEFORE_TEXT order/READS_AFTER_POOL order/READS_AFTER_KEY
+    order/WRITES_ON_REFUSAL order/ANSWERS_ON_REFUSAL order/PREFIX_IS_EQUAL
+    read_record/READS_AFTER_RECORDS read_record/ANSWERS_ON_REFUSAL read_record/STARTS_AT_THE_COLLATION
+    read_record/TAKES_A_CUT_RECORD read_record/TAKES_FLAG_0_UNDER_1
+    write_text/ANSWERS_WITHOUT_THE_LENGTH write_text/WRITES_AFTER_THE_RECORD
+    write_key/WRITES_ON_REFUSAL write_key/COLLATION_OF_ONE_OCTET write_key/ROOM_BEFORE_BODY)
 # The sanitizer finds no place for its memory under some kernels' randomised addresses; without them it always does.
 STEADY=()
 if setarch --addr-no-randomize true 2> /dev/null; then
@@ -42,10 +47,11 @@ run() {
     echo "fuzz: $runs runs, $what"
 }
 
-# must_find MISTAKE: the stored inputs find a library whose mz_order has this mistake.
+# must_find CALL/MISTAKE: the stored inputs find a library whose call has this mistake.
 must_find() {
-    "${COMPILE[@]}" "-DWRONG=$1" -c -o "$OUT/order.o" tests/fuzz/wrong/order.c || fail "$1 doesn't build"
-    clang "$SANITIZE" -o "$OUT/wrong" "${objects[@]}" "$OUT/order.o" "$OUT/renamed.a" || fail "$1 doesn't link"
+    local call=${1%/*} mistake=${1#*/}
+    "${COMPILE[@]}" "-DWRONG=$mistake" -c -o "$OUT/wrong.o" "tests/fuzz/wrong/$call.c" || fail "$1 doesn't build"
+    clang "$SANITIZE" -o "$OUT/wrong" "${objects[@]}" "$OUT/wrong.o" "$OUT/without_$call.a" || fail "$1 doesn't link"
     ! "${STEADY[@]}" "$OUT/wrong" "${OPTIONS[@]}" -runs=0 "$OUT/corpus" > "$OUT/wrong.log" 2>&1 || fail "$1 is not found"
     grep -Eq "doesn't hold|AddressSanitizer: SEGV" "$OUT/wrong.log" \
         || { cat "$OUT/wrong.log" >&2; fail "$1 stops in another way"; }
@@ -67,7 +73,10 @@ clang "$SANITIZE" -o "$OUT/calls" "${objects[@]}" "$LIB" || fail "the target doe
 cp -r tests/fuzz/corpus "$OUT/corpus"
 inputs=("$OUT"/corpus/*)
 [ -f "${inputs[0]}" ] || fail "tests/fuzz/corpus is empty"
-objcopy --redefine-sym mz_order=proved_mz_order "$LIB" "$OUT/renamed.a"
+for source in tests/fuzz/wrong/*.c; do
+    call=$(basename "$source" .c)
+    objcopy --redefine-sym "mz_$call=proved_mz_$call" "$LIB" "$OUT/without_$call.a"
+done
 for mistake in "${WRONG[@]}"; do
     must_find "$mistake"
 done

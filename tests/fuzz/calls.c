@@ -45,7 +45,9 @@ int LLVMFuzzerInitialize(int *argc, char ***argv) {
 int LLVMFuzzerTestOneInput(const uint8_t *data, size_t size) {
     if (size == 0)
         return 0;
-    if (data[0] % 4 == 0)
+    if (data[0] % 8 == 5)
+        fuzz_records(data + 1, size - 1);
+    else if (data[0] % 4 == 0)
         fuzz_lines(data + 1, size - 1);
     else
         fuzz_texts(data + 1, size - 1);

@@ -32,4 +32,6 @@ void fuzz_texts(const uint8_t *data, size_t size);
 
 void fuzz_lines(const uint8_t *data, size_t size);
 
+void fuzz_records(const uint8_t *data, size_t size);
+
 #endif

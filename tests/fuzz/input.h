@@ -1,12 +1,16 @@
 /* What the fuzzer gives, cut into the arguments of calls.
  *
- * Octet 0 says what the rest is: 0 modulo 4 lines of UnicodeData.txt (lines.c), else texts over a table (texts.c). Whatever the octets
- * are, they are some case; what is left out at the end counts as 0.
+ * Octet 0 says what the rest is: 0 modulo 4 lines of UnicodeData.txt (lines.c), 5 modulo 8 records (records.c), else texts over
+ * a table (texts.c). Whatever the octets are, they are some case; what is left out at the end counts as 0.
  *
  * NUMBERS of a table are one octet each: below 80 hex the number itself; 80 to BF the marks 0300 to 033F; C0 to EF the code point of an
  * entry (C0 the first); F0 and two octets; F1 and four octets; F2 to FF numbers at which some rule changes.
  *
  * TEXTS are a length and so many octets; a length of F0 hex or more stands for 4,088 to 4,103 octets, which repeat the next 8.
+ *
+ * RECORDS are a position; how many octets (a) follow those of the input in the slice; collation, flag, text length and key
+ * length of a key to write, whose octets are the first ones of the slice; and the octets of the slice. Numbers are one octet
+ * each: below F0 hex the number itself, else one at which some rule changes (records.c).
  *
  * Of the stored inputs (corpus), those with a name were written by hand; each found_NN, which libFuzzer found, raises some counter that no
  * other input does. */

@@ -14,7 +14,7 @@ enum memory {
 };
 
 /* Each argument of a call has pages of its own. */
-enum slot { FIRST, SECOND, ENTRIES, POOL, FIRST_KEY, SECOND_KEY, ANSWER, SLOTS };
+enum slot { FIRST, SECOND, ENTRIES, POOL, FIRST_KEY, SECOND_KEY, RECORDS, ANSWER, SLOTS };
 
 /* The most octets that a slice may have. */
 #define LENT_MOST ((size_t)1 << 20)

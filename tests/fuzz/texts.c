@@ -170,6 +170,14 @@ static void expect_bounds(uint32_t collation, const struct text *text, const uin
     }
 }
 
+/* Whatever key a preparation gives, a record may hold. */
+static void expect_recorded(const struct pair *pair, const struct side *side, uint64_t valid) {
+    static uint8_t records[LENT_MOST];
+    uint64_t row[4];
+    mz_write_key(pair->collation, valid, side->text->length, side->key, side->key_length, records, sizeof records, 0, row);
+    EXPECT(row[0] == 0 && row[3] == 10 + side->key_length);
+}
+
 /* Prepares one text, and keeps its key in `storage` if it belongs in the buffer. */
 static void prepare(const struct pair *pair, enum memory memory, preparing *call, struct side *side, uint8_t *storage,
                     uint64_t row[7]) {
@@ -189,6 +197,8 @@ static void prepare(const struct pair *pair, enum memory memory, preparing *call
     }
     if (side->in_buffer && side->key_length > 0)
         memcpy(storage, buffer.at, side->key_length);
+    if (!side->refused)
+        expect_recorded(pair, side, row[3]);
     expect_buffer(buffer, side, !side->refused);
     note(PREPARED, 2 * row[0] + row[3]);
     give_back(text);
