@@ -17,7 +17,8 @@ need_unicode_data || fail 'no UnicodeData.txt'
 need_fuzzer || fail 'no clang that can build a fuzzer'
 
 verdict=$(mktemp)
-trap 'rm -f "$verdict"' EXIT
+fuzzed=$(mktemp)
+trap 'rm -f "$verdict" "$fuzzed"' EXIT
 rt ci 2>&1 | awk -v verdict="$verdict" 'NR > 1 { print last; fflush() } { last = $0 } END { print last > verdict }'
 [ "${PIPESTATUS[0]}" -eq 0 ] || fail 'rt ci'
 grep -Eqx '[0-9]+ passed, 0 failed' "$verdict" || fail "rt ci ended with: $(cat "$verdict")"
@@ -26,9 +27,13 @@ rt fmt --check || fail 'rt fmt --check: a file is not in the layout (mend with: 
 bash tests/specification.sh || fail 'tests/specification.sh: docs/SPECIFICATION.md and the definitions differ'
 bash tests/library.sh || fail 'tests/library.sh: the library does not answer C or Rust as it should'
 bash tests/pairs.sh || fail 'tests/pairs.sh: the program pairs does not print what it should'
+# The fuzzer takes one core, and so does the comparison: they run at once, and what the fuzzer says is printed after.
+bash tests/fuzz.sh > "$fuzzed" 2>&1 &
+fuzzer=$!
 bash tests/second.sh || fail 'tests/second.sh: the library and the second program differ, or could not be compared'
 bash tests/published.sh || fail 'tests/published.sh: the rows of crates/published are not those of the published file'
-bash tests/fuzz.sh || fail 'tests/fuzz.sh: the fuzzer found a fault, or could not run'
+wait "$fuzzer" || fail 'tests/fuzz.sh: the fuzzer found a fault, or could not run'
+cat "$fuzzed"
 bash tests/mistakes.sh || fail 'tests/mistakes.sh: a planted mistake was not found'
 
 [ "$failed" -eq 0 ] || exit 1
