@@ -1,5 +1,6 @@
 #!/usr/bin/env bash
-# Builds the benchmarks: build/bench/occurrence, and build/bench/names with each program that can be built here; it says which can't.
+# Builds the benchmarks: build/bench/occurrence, build/bench/records, and build/bench/names with each program that can be built
+# here; it says which can't.
 # MUNDEZIWA_ARCHIVE: the library's archive, if it isn't where `make lib` leaves it.
 set -euo pipefail
 cd "$(dirname "$0")/.."
@@ -40,4 +41,5 @@ add_library icu unicode/unorm2.h icuuc libicu-dev
 add_library utf8proc utf8proc.h utf8proc libutf8proc-dev
 add_library unistring uninorm.h unistring libunistring-dev
 cc -O3 -Wall -Wextra -o "$out/occurrence" bench/occurrence.c target/staticlib/libbench_find.a
+cc -O3 -Wall -Wextra -o "$out/records" bench/records.c bench/straight_records.c "$archive"
 cc -O3 -Wall -Wextra "${flags[@]}" -o "$out/names" "${sources[@]}" "${libraries[@]}"
