@@ -1,6 +1,7 @@
 #!/usr/bin/env bash
-# README.md as a newcomer takes it: its C program, compiled strictly, its Rust program, in a crate with its line for Cargo.toml,
-# and `pairs` print what it says; its commands are those of `make help`, and its crates those of crates.txt.
+# README.md as a newcomer takes it: its C program, compiled strictly, its Rust programs, in a crate with its line for Cargo.toml,
+# and `pairs` print what it says; the file of records has the octets that it shows; its commands are those of `make help`, and its
+# crates those of crates.txt.
 # Needs build/lib, which `make lib` leaves; target/bin/pairs is left by `make pairs` and by `rt ci`.
 set -euo pipefail
 cd "$(dirname "$0")/.."
@@ -15,29 +16,50 @@ same() {
     [ "$2" = "$3" ] || { diff <(echo "$2") <(echo "$3") >&2 || true; fail "$1"; }
 }
 
-# block LANGUAGE: the lines of README.md's block in that language.
+# block SECTION LANGUAGE: the lines of the block in that language that README.md's section has.
 block() {
-    awk -v language="$1" '$0 == "```" language { inside = 1; next } $0 == "```" { inside = 0 } inside' README.md
+    awk -v heading="## $1" -v language="$2" '
+        /^## / { here = $0 == heading }
+        here && $0 == "```" language { inside = 1; next }
+        $0 == "```" { inside = 0 }
+        inside' README.md
+}
+
+# run_rust PROGRAM: what one of the Rust programs prints.
+run_rust() {
+    CARGO_TARGET_DIR=$OUT/target cargo run --quiet --offline --manifest-path "$OUT/Cargo.toml" --bin "$1" \
+        || fail "the Rust program $1 fails"
 }
 
 readonly OUT=build/readme
-mkdir -p "$OUT/src"
-said=$(block text)
+mkdir -p "$OUT/src/bin"
+said=$(block 'From C' text)
 [ -n "$said" ] || fail 'README.md says nowhere what its programs print'
 
-block c > "$OUT/example.c"
+block 'From C' c > "$OUT/example.c"
 cc -std=c99 -Wall -Wextra -Werror -pedantic -Iinclude -o "$OUT/example" "$OUT/example.c" build/lib/libmundeziwa.a
 printed=$("./$OUT/example") || fail 'the C program fails'
 same 'the C program prints something else' "$said" "$printed"
 
-block rust > "$OUT/src/main.rs"
 {
     printf '[package]\nname = "example"\nversion = "0.1.0"\nedition = "2021"\n\n[workspace]\n\n[dependencies]\n'
-    block toml | sed "s|path/to/mundeziwa|$PWD|"
+    block 'From Rust' toml | sed "s|path/to/mundeziwa|$PWD|"
 } > "$OUT/Cargo.toml"
-printed=$(CARGO_TARGET_DIR=$OUT/target cargo run --quiet --offline --manifest-path "$OUT/Cargo.toml") \
-    || fail 'the Rust program fails'
+block 'From Rust' rust > "$OUT/src/main.rs"
+block 'Records in files' rust > "$OUT/src/bin/records.rs"
+printed=$(run_rust example)
 same 'the Rust program prints something else' "$said" "$printed"
+
+rm -f build/names.records
+printed=$(run_rust records)
+same 'the program on records prints something else' "$(block 'Records in files' text)" "$printed"
+shown=$(block 'Records in files' console)
+# the octets stand between the offset and two spaces; xxd itself is asked where it is installed
+same 'the file of records has other octets' "$(sed -n 's/^[0-9a-f]*: //p' <<< "$shown" | sed 's/  .*//' | tr '\n' ' ')" \
+    "$(od -A n -v -t x1 build/names.records | tr -s ' \n' ' ' | sed 's/^ //')"
+if command -v xxd > /dev/null; then
+    same 'xxd prints something else' "$(tail -n +2 <<< "$shown")" "$(xxd -g 1 build/names.records)"
+fi
 
 [ -x target/bin/pairs ] || fail 'target/bin/pairs is not there: make pairs'
 # README.md adds the names after two spaces
