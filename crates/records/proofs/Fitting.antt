@@ -1,9 +1,9 @@
 -- Which items fit: collation, flag and lengths by cases.
 -- Assumes nothing.
-use mathlib.Core.Path.{_≡_, refl}
+use mathlib.Core.Path.{_≡_, refl, sym}
 use Prim.Native.Nat.{ℕ, _*_, _≤_, _<_}
 use native.Mathlib.Omega.{arith}
-use mathlib.Core.Bool.{Bool, true, false, cond, not, _&&_, _||_}
+use mathlib.Core.Bool.{Bool, true, false, cond, not, _&&_, _||_, true≢false}
 use mathlib.Core.Option.{Option, none, some}
 use lib.Dec.{eqb, leb}
 use borrow.Author.Tests.{leb-true, eqb-true, ne-eqb}
@@ -13,10 +13,6 @@ use Rattle.terms.specs.declared.Collation.the-variants.{Octet, AsciiCasemap, Un
 use Rattle.terms.proofs.Tests.{both}
 use Rattle.records.specs.Items.{Rules, rules, flagFits, lengthFits, agrees, recordCollation, keyFits}
 use Rattle.records.specs.declared.KeyFields.{KeyFields}
-
--- no test both fails and holds
-false-true : false ≡ true → ⊥
-false-true e = let z : _≡_ {A = ℕ} 0 1 = cc in omega arith
 
 -- a test and one that fails
 and-false : (b : Bool) → b && false ≡ false
@@ -56,7 +52,7 @@ length-most true n m e = let same : n ≡ m = eqb-true n m e in omega arith
 length-most false n m e = leb-true n (128 * m) e
 
 agrees-most : (o : Option Collation) (f : KeyFields) (n : ℕ) → agrees o f n ≡ true → n ≤ 128 * f .«text_length»
-agrees-most none f n e = absurd (false-true e)
+agrees-most none f n e = absurd (true≢false (sym e))
 agrees-most (some c) f n e =
     length-most (eqb (f .valid) 0 || not (readsTable c)) n (f .«text_length»)
     (both (flagFits c (f .valid)) (lengthFits c f n) e .1)
@@ -81,7 +77,7 @@ collation-small k f n e = go (eqb k 1) refl (eqb k 2) refl (eqb k 3) refl
     go true p b q c r = let is : k ≡ 1 = eqb-true k 1 p in omega arith
     go false p true q c r = let is : k ≡ 2 = eqb-true k 2 q in omega arith
     go false p false q true r = let is : k ≡ 3 = eqb-true k 3 r in omega arith
-    go false p false q false r = absurd (false-true (rw (p, q, r) at e))
+    go false p false q false r = absurd (true≢false (sym (rw (p, q, r) at e)))
 
 -- so has a flag
 flag-small : (c : Collation) (flag : ℕ) → flagFits c flag ≡ true → flag < 256
@@ -90,10 +86,10 @@ flag-small c flag e = go (eqb flag 1) refl (eqb flag 0) refl
     go : (a : Bool) → eqb flag 1 ≡ a → (b : Bool) → eqb flag 0 ≡ b → flag < 256
     go true p b q = let is : flag ≡ 1 = eqb-true flag 1 p in omega arith
     go false p true q = let is : flag ≡ 0 = eqb-true flag 0 q in omega arith
-    go false p false q = absurd (false-true (rw (p, q) at e))
+    go false p false q = absurd (true≢false (sym (rw (p, q) at e)))
 
 agrees-flag : (o : Option Collation) (f : KeyFields) (n : ℕ) → agrees o f n ≡ true → f .valid < 256
-agrees-flag none f n e = absurd (false-true e)
+agrees-flag none f n e = absurd (true≢false (sym e))
 agrees-flag (some c) f n e = flag-small c (f .valid) (both (flagFits c (f .valid)) (lengthFits c f n) e .0)
 
 -- the numbers of a key that fits have one, one and two octets

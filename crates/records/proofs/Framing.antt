@@ -12,6 +12,7 @@ use lib.ListN.{length, drop, length-drop}
 use lib.Seq.{length-take-le}
 use borrow.Author.Tests.{lt-ltb, ltb-false, eq-eqb, ne-eqb}
 use Rattle.terms.specs.Refusals.{refusal}
+use Rattle.terms.specs.declared.Refusal.{Refusal}
 use Rattle.terms.proofs.Checks.{or-left, or-right}
 use Rattle.records.specs.Items.{Rules, Item, among, fits}
 use Rattle.records.specs.Reading.{end, stopped, item, saidLength, short, following, kindIn, bodyIn, itemIn}
@@ -72,13 +73,19 @@ unfolding readRest
 readRest-whole r p rest e = rw e
 
 -- it is never the end
+stopped-end : {x : Refusal} → stopped x ≡ end → ⊥
+stopped-end e = let z : _≡_ {A = ℕ} 0 1 = cc in omega arith
+
+item-end : {i : Item} {n : ℕ} → item i n ≡ end → ⊥
+item-end e = let z : _≡_ {A = ℕ} 0 1 = cc in omega arith
+
 judged-end : (r : Rules) (n : ℕ) (o : Option Item) → judged r n o ≡ end → ⊥
-judged-end r n none e = let z : _≡_ {A = ℕ} 0 1 = cc in omega arith
+judged-end r n none e = stopped-end e
 judged-end r n (some i) e = go (fits r i) refl
   where
     go : (b : Bool) → fits r i ≡ b → ⊥
-    go true f = let same : item i n ≡ end = rw f at e in let z : _≡_ {A = ℕ} 0 1 = cc in omega arith
-    go false f = let same : stopped (refusal 13 0 0) ≡ end = rw f at e in let z : _≡_ {A = ℕ} 0 1 = cc in omega arith
+    go true f = item-end (rw f at e)
+    go false f = stopped-end (rw f at e)
 
 following-end : (r : Rules) (n : ℕ) (octets : List ℕ) → readFollowing r n octets ≡ end → ⊥
 unfolding readFollowing
@@ -86,14 +93,14 @@ following-end r n octets e = go (among (kindIn octets) (r .kinds)) refl
   where
     go : (b : Bool) → among (kindIn octets) (r .kinds) ≡ b → ⊥
     go true f = judged-end r n (itemIn (kindIn octets) (bodyIn octets)) (rw f at e)
-    go false f = let same : stopped (refusal 12 0 0) ≡ end = rw f at e in let z : _≡_ {A = ℕ} 0 1 = cc in omega arith
+    go false f = stopped-end (rw f at e)
 
 rest-end : (r : Rules) (p : ℕ) (rest : List ℕ) → readRest r p rest ≡ end → ⊥
 unfolding readRest
 rest-end r p rest e = go (short rest) refl
   where
     go : (b : Bool) → short rest ≡ b → ⊥
-    go true f = let same : stopped (refusal 11 0 0) ≡ end = rw f at e in let z : _≡_ {A = ℕ} 0 1 = cc in omega arith
+    go true f = stopped-end (rw f at e)
     go false f = following-end r (p + 4 + saidLength rest) (following rest) (rw f at e)
 
 -- ---- `readAt`

@@ -15,7 +15,7 @@ use Rattle.records.specs.declared.Written.the-variants.{Refused as Write
 position-same : (a b : RecordPosition) → a .0 ≡ b .0 → a ≡ b
 position-same a b e = λ i. record { 0 = e i }
 
-fields-same : (f g : KeyFields) → f .collation ≡ g .collation → f .valid ≡ g .valid → f .«text_length» ≡ g .«text_length» → f ≡ g
+pub fields-same : (f g : KeyFields) → f .collation ≡ g .collation → f .valid ≡ g .valid → f .«text_length» ≡ g .«text_length» → f ≡ g
 fields-same f g p q r = λ i. record { collation = p i; valid = q i; «text_length» = r i }
 
 pub recordOutcome-inj : (x y : Record) → recordOutcome x ≡ recordOutcome y → x ≡ y

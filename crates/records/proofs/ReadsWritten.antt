@@ -18,6 +18,7 @@ use Rattle.records.specs.Reading.{judged, readFollowing, readRest, readA
 use Rattle.records.specs.declared.KeyFields.{KeyFields}
 use Rattle.records.proofs.LittleEndian.{length-littleEndian, numberIn-littleEndian}
 use Rattle.records.proofs.Fitting.{Small, keyFits-small, keyFits-most}
+use Rattle.records.proofs.Injective.{fields-same}
 use Rattle.records.proofs.Framing.{readRest-whole, readAt-rest}
 use Rattle.records.proofs.Lengths.{length-fieldOctets, length-kind-body, length-framed}
 
@@ -80,16 +81,11 @@ module _ (kind : ℕ) (body rest : List ℕ) (small : 2 + length body < 42949672
 
 -- ---- the items
 
--- fields by their numbers
-fields-same : (f : KeyFields) (a b c : ℕ) → a ≡ f .collation → b ≡ f .valid → c ≡ f .«text_length»
-    → record { collation = a; valid = b; «text_length» = c } ≡ f
-fields-same f a b c p q r = rw (p, q, r)
-
 -- the fields of a key come back
 fields-back : (f : KeyFields) (key : List ℕ) → Small f → fieldsIn (fieldOctets f ++ key) ≡ f
 unfolding fieldsIn fieldOctets littleEndian
 fields-back f key s =
-    fields-same f _ _ _
+    fields-same _ f
     (numberIn-littleEndian 1 (f .collation) (s .collation))
     (numberIn-littleEndian 1 (f .valid) (s .flag))
     (numberIn-littleEndian 2 (f .«text_length») (s .length))
