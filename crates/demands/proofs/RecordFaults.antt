@@ -3,7 +3,7 @@
 use mathlib.Core.Path.{_≡_, refl, sym, ap, _∙_}
 use Prim.Native.Nat.{ℕ, _-_}
 use native.Mathlib.Decide.{ℕ-discrete}
-use mathlib.Core.Bool.{Bool, true, false, not, _&&_, _||_}
+use mathlib.Core.Bool.{Bool, true, false, not, _&&_, _||_, or-false}
 use mathlib.Core.Logic.{_⊎_, inl, inr, _↔_}
 use mathlib.Core.Option.{Option, none, some}
 use mathlib.Core.List.{List, [], _∷_}
@@ -56,10 +56,6 @@ body-exactly kind body =
     (and-exactly (leb 4 n) unfit (leb-exactly 4 n) (key-exactly (fieldsIn body) (n - 4)))))
 
 -- 12
-or-false : (b : Bool) → b || false ≡ b
-or-false true = refl
-or-false false = refl
-
 kind-exactly : (kind : ℕ) → (not (among kind (rules .kinds)) ≡ true) ↔ ((kind ≡ 1 → ⊥) × (kind ≡ 2 → ⊥))
 kind-exactly kind =
     nor-exactly (eqb kind 1) (eqb kind 2 || false) (eqb-exactly kind 1)

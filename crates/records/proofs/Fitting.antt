@@ -3,7 +3,7 @@
 use mathlib.Core.Path.{_≡_, refl, sym}
 use Prim.Native.Nat.{ℕ, _*_, _≤_, _<_}
 use native.Mathlib.Omega.{arith}
-use mathlib.Core.Bool.{Bool, true, false, cond, not, _&&_, _||_, true≢false}
+use mathlib.Core.Bool.{Bool, true, false, cond, not, _&&_, _||_, and-false, true≢false}
 use mathlib.Core.Option.{Option, none, some}
 use lib.Dec.{eqb, leb}
 use borrow.Author.Tests.{leb-true, eqb-true, ne-eqb}
@@ -13,11 +13,6 @@ use Rattle.terms.specs.declared.Collation.the-variants.{Octet, AsciiCasemap, Un
 use Rattle.terms.proofs.Tests.{both}
 use Rattle.records.specs.Items.{Rules, rules, flagFits, lengthFits, agrees, recordCollation, keyFits}
 use Rattle.records.specs.declared.KeyFields.{KeyFields}
-
--- a test and one that fails
-and-false : (b : Bool) → b && false ≡ false
-and-false true = refl
-and-false false = refl
 
 module _ (c : Collation) (f : KeyFields) (n : ℕ) where
   -- the flag is 1
