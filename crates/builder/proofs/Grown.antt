@@ -18,7 +18,7 @@ use Rattle.terms.specs.Refusals.{partsMost}
 use Rattle.terms.proofs.Lists.{all-append}
 use Rattle.table.specs.Layout.{Entry, entryCount, codeAt, startAt, countAt}
 use Rattle.table.specs.Table.{Table, notAbove, faultyCode, countsBelow, faultyEntry}
-use Rattle.table.proofs.Written.{length-putAt, take-putAt}
+use Rattle.terms.proofs.PutAt.{length-putAt, take-putAt}
 use Rattle.table.proofs.Entries.{entryCount-putEntry}
 use Rattle.table.proofs.Form.{sound-fits}
 use Rattle.table.proofs.Appending.{codeAt-before, titleAt-before, startAt-before, countAt-before, countsBelow-before}

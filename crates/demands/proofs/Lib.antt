@@ -10,7 +10,6 @@ pub mod Ordering
 pub mod Hits
 pub mod Growing
 pub mod Preparing
-pub mod PutAt
 pub mod RecordCalls
 pub mod RecordFaults
 pub mod RecordRuns

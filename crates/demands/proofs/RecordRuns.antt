@@ -14,7 +14,7 @@ use Rattle.terms.specs.declared.Refusal.{Refusal}
 use Rattle.terms.specs.declared.RecordPosition.{RecordPosition}
 use Rattle.records.specs.declared.Written.the-variants.{Upto}
 use Rattle.terms.proofs.Lists.{all-cons, all-first, all-rest}
-use Rattle.table.proofs.Written.{length-putAt}
+use Rattle.terms.proofs.PutAt.{length-putAt, putAt-none, putAt-append}
 use Rattle.records.specs.Numbers.{Octets}
 use Rattle.records.specs.Items.{rules, Item, fits, recordOf}
 use Rattle.records.specs.Reading.{Reading, end, stopped, item, readAt}
@@ -23,7 +23,6 @@ use Rattle.records.proofs.WritesRead.{readAt-found}
 use Rattle.records.proofs.Octets.{found-next, found-record}
 use Rattle.demands.specs.Records.{ReadsEach, read-none, read-one, WritesEach, wrote-none, wrote-one}
 use Rattle.demands.proofs.RecordCalls.{item-read, reads-next, writes-given, writes-room, writes-same}
-use Rattle.demands.proofs.PutAt.{putAt-none, putAt-append}
 
 -- ---- calls one after another
 

@@ -44,7 +44,7 @@ use Rattle.demands.specs.Records.{fieldsFor, Unfit}
 use Rattle.demands.specs.Records.{ReadCall, GivesItem, ReadsEach, read-none, WritesEach, wrote-none, wrote-one}
 use Rattle.demands.proofs.Preparing.{unrefused, numbers-are, shows}
 use Rattle.demands.proofs.Storing.{kept-fits}
-use Rattle.demands.proofs.PutAt.{drop-putAt, putAt-before, putAt-there, putAt-after, putAt-same}
+use Rattle.terms.proofs.PutAt.{drop-putAt, putAt-before, putAt-there, putAt-after, putAt-same}
 use Rattle.demands.proofs.RecordCalls.{reads-end, reads-stopped, reads-item, end-read, item-read}
 use Rattle.demands.proofs.RecordCalls.{GivenItem, given-item, Stands, writes-given}
 use Rattle.demands.proofs.RecordCalls.{writes-room, writes-same}

@@ -12,7 +12,7 @@ use lib.Seq.{length-take-le, getD-take}
 use borrow.Author.Tests.{eqb-true, eq-eqb}
 use Rattle.terms.specs.Lists.{putAt}
 use Rattle.table.specs.Layout.{entryWidth, Entry, entryNumbers, entryCount, wholeEntries, numberAt, putEntry, firstEntries}
-use Rattle.table.proofs.Written.{length-putAt, getD-putAt-before, getD-putAt, getD-putAt-after}
+use Rattle.terms.proofs.PutAt.{length-putAt, getD-putAt-before, getD-putAt, getD-putAt-after}
 
 -- there are no more entries than numbers
 pub entryCount-most : (es : List ℕ) → entryCount es ≤ length es
@@ -57,7 +57,8 @@ module _ (es : List ℕ) (i : ℕ) (e : Entry) (l : i < entryCount es) where
   unfolding numberAt putEntry
   numberAt-putEntry-other k j ne h = go (decLt k i)
     where
-      go : Dec (k < i) → getD (putAt (i * entryWidth) (entryNumbers e) es) (k * entryWidth + j) 0 ≡ getD es (k * entryWidth + j) 0
+      go : Dec (k < i) → getD (putAt (i * entryWidth) (entryNumbers e) es) (k * entryWidth + j) 0 ≡ getD es
+          (k * entryWidth + j) 0
       go (yes b) = getD-putAt-before (i * entryWidth) (entryNumbers e) es entry-fits (k * entryWidth + j) (omega arith)
       go (no b) = getD-putAt-after (i * entryWidth) (entryNumbers e) es entry-fits (k * entryWidth + j) (omega arith)
 

@@ -1,4 +1,3 @@
-pub mod Written
 pub mod Entries
 pub mod Form
 pub mod Appending

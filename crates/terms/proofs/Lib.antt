@@ -4,5 +4,6 @@ pub mod Injective
 pub mod Lists
 pub mod Lowest
 pub mod Parts
+pub mod PutAt
 pub mod Same
 pub mod Tests

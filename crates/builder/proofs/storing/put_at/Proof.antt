@@ -9,7 +9,7 @@ use borrow.Author.Needs.{needs}
 use mathlib.Core.List.{List}
 use lib.ListN.{length, set, getD}
 use lib.Seq.{paste, paste-zero, paste-suc, length-paste}
-use Rattle.table.proofs.Written.{paste-all}
+use Rattle.terms.proofs.PutAt.{paste-all}
 use Rattle.builder.proofs.storing.put_at.Statement.{statement}
 use Rattle.builder.proofs.storing.put_at.Tie as tie
 

@@ -9,7 +9,7 @@ use borrow.Author.Needs.{needs}
 use Rattle.terms.specs.Lists.{putAt}
 use Rattle.table.specs.Layout.{entryWidth, entry, entryCount, putEntry}
 use Rattle.table.proofs.Entries.{entry-fits}
-use Rattle.table.proofs.Written.{sets-putAt}
+use Rattle.terms.proofs.PutAt.{sets-putAt}
 use Rattle.table.proofs.layout.put_entry.Statement.{statement}
 use Rattle.table.proofs.layout.put_entry.Tie as tie
 
