@@ -1,8 +1,10 @@
 // Octets: how two slices of them are ordered, and putting some at the start of a slice.
 ghost use mathlib.Core.Path.{_≡_};
+ghost use mathlib.Core.Logic.{_⊎_};
 ghost use Prim.Native.Nat.{_+_, _≤_};
 ghost use lib.ListN.{length, take, drop};
 ghost use Rattle.terms.specs.Lists.{putAt};
+ghost use Rattle.octets.specs.Numbers.{ReadsNumber};
 ghost use Rattle.octets.specs.Order.{orderOf, comparedOrder};
 ghost use Rattle.octets.specs.Put.{Puts};
 
@@ -16,11 +18,54 @@ pub enum Comparison {
     Greater,
 }
 
-// The order of two slices: octet by octet, unsigned; a proper prefix is less.
+// The order of two slices: octet by octet, unsigned; a proper prefix is less. The first four octets tell most of them apart:
+// that much is inlined where this is called, and the rest, called from two places, is not.
 pub fn compare_octets(a: &[u8], b: &[u8]) -> Comparison
     ensures { λ r. ⌜ comparedOrder r ≡ orderOf (now (a .entry)) (now (b .entry)) ⌝ }
 {
-    let mut i = 0;
+    if a.len() < 4 || b.len() < 4 {
+        return compare_blocks(a, b, 0);
+    }
+    let start_a = four(a, 0);
+    let start_b = four(b, 0);
+    if start_a < start_b {
+        return Comparison::Less;
+    }
+    if start_b < start_a {
+        return Comparison::Greater;
+    }
+    compare_blocks(a, b, 4)
+}
+
+// The order of what two slices have from a place on, eight octets at a time.
+fn compare_blocks(a: &[u8], b: &[u8], from: usize) -> Comparison
+    requires { ⌜ from ≤ length (now a) ⌝ }
+    requires { ⌜ from ≤ length (now b) ⌝ }
+    ensures { λ r. ⌜ comparedOrder r ≡ orderOf (drop from (now (a .entry))) (drop from (now (b .entry))) ⌝ }
+{
+    let n = lower(a.len(), b.len());
+    let mut i = from;
+    while 8 <= n - i {
+        let block_a = eight(a, i);
+        let block_b = eight(b, i);
+        if block_a < block_b {
+            return Comparison::Less;
+        }
+        if block_b < block_a {
+            return Comparison::Greater;
+        }
+        i += 8;
+    }
+    compare_from(a, b, i)
+}
+
+// The same, octet by octet.
+fn compare_from(a: &[u8], b: &[u8], from: usize) -> Comparison
+    requires { ⌜ from ≤ length (now a) ⌝ }
+    requires { ⌜ from ≤ length (now b) ⌝ }
+    ensures { λ r. ⌜ comparedOrder r ≡ orderOf (drop from (now (a .entry))) (drop from (now (b .entry))) ⌝ }
+{
+    let mut i = from;
     while i < a.len() {
         if b.len() <= i {
             return Comparison::Greater;
@@ -39,6 +84,38 @@ pub fn compare_octets(a: &[u8], b: &[u8]) -> Comparison
         return Comparison::Less;
     }
     Comparison::Equal
+}
+
+// The lower of two numbers.
+fn lower(a: usize, b: usize) -> usize
+    ensures { λ r. ⌜ (r ≤ a) × (r ≤ b) × ((r ≡ a) ⊎ (r ≡ b)) ⌝ }
+{
+    if a < b {
+        return a;
+    }
+    b
+}
+
+// Eight octets from a place on as one number, the first the highest.
+fn eight(octets: &[u8], at: usize) -> u64
+    requires { ⌜ at + 8 ≤ length (now octets) ⌝ }
+    ensures { λ r. ⌜ ReadsNumber 8 (now (octets .entry)) at r ⌝ }
+{
+    let high = four(octets, at);
+    let low = four(octets, at + 4);
+    high as u64 * 0x1_0000_0000 + low as u64
+}
+
+// Four of them: the compiler reads them at once.
+fn four(octets: &[u8], at: usize) -> u32
+    requires { ⌜ at + 4 ≤ length (now octets) ⌝ }
+    ensures { λ r. ⌜ ReadsNumber 4 (now (octets .entry)) at r ⌝ }
+{
+    let a = octets[at] as u32;
+    let b = octets[at + 1] as u32;
+    let c = octets[at + 2] as u32;
+    let d = octets[at + 3] as u32;
+    ((a * 256 + b) * 256 + c) * 256 + d
 }
 
 // Writes octets at the start of a slice that has room for them, and answers how many they are.

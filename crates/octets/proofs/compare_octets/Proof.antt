@@ -1,160 +1,66 @@
--- `octets::compare_octets` meets its contract. The loop's invariant: `i` is within both slices, and their order is that of what
--- follows `i` in each. The measure is what is left of the first.
+-- `octets::compare_octets` meets its contract: the first four octets of each decide, or what follows them does.
 -- Assumes nothing.
-use mathlib.Core.Path.{_≡_, refl, sym, _∙_}
-use Prim.Native.Nat.{ℕ, _+_, _-_, _≤_, _<_, compare, Ordering·lt, Ordering·eq, Ordering·gt}
-use native.Mathlib.Numerals.{add-one}
+use mathlib.Core.Path.{sym, _∙_}
 use native.Mathlib.Omega.{arith}
-use mathlib.Core.List.{List}
 use borrow.Author.Needs.{needs}
-use lib.ListN.{length, drop, getD, drop-of-length-le}
-use lib.Seq.{drop-cons}
-use Rattle.octets.specs.Order.{andThen, orderOf}
-use Rattle.octets.proofs.Order.{compare-refl, compare-below, compare-flip}
+use Rattle.octets.proofs.Numbers.{read-lower, read-higher, read-same}
 use Rattle.octets.proofs.compare_octets.Statement.{statement}
 use Rattle.octets.proofs.compare_octets.Tie as tie
 
--- ---- where the order is decided
+compare-blocks-requires : tie.Need-compare-blocks-requires
+compare-blocks-requires c κs = search needs
 
--- the order of two slices is that of what follows i in each
-abbrev SameFrom : List ℕ → List ℕ → ℕ → Type 0
-SameFrom a b i = orderOf a b ≡ orderOf (drop i a) (drop i b)
+-- one of them is short
+returns : tie.Need-returns
+returns c = search needs
 
-module _ (a b : List ℕ) (i : ℕ) (e : SameFrom a b i) where
-  -- the second slice ends first
-  second-ends : i < length a → length b ≤ i → orderOf a b ≡ Ordering·gt
-  unfolding orderOf
-  second-ends h k = e ∙ rw (drop-cons a i 0 h, drop-of-length-le b k)
+four-requires : tie.Need-four-requires
+four-requires c κs = search needs
 
-  -- the first slice ends first
-  first-ends : length a ≤ i → i < length b → orderOf a b ≡ Ordering·lt
-  unfolding orderOf
-  first-ends h k = e ∙ rw (drop-of-length-le a h, drop-cons b i 0 k)
+four-requires-2 : tie.Need-four-requires-2
+four-requires-2 c κs = search needs
 
-  -- both end here
-  both-end : length a ≤ i → length b ≤ i → orderOf a b ≡ Ordering·eq
-  unfolding orderOf
-  both-end h k = e ∙ rw (drop-of-length-le a h, drop-of-length-le b k)
-
-  module _ (h : i < length a) (k : i < length b) where
-    -- an octet of each, and then what follows
-    octets : orderOf a b ≡ andThen (compare (getD a i 0) (getD b i 0)) (orderOf (drop (i + 1) a) (drop (i + 1) b))
-    unfolding orderOf
-    octets = e ∙ rw (drop-cons a i 0 h, drop-cons b i 0 k, add-one i)
-
-    -- the first octet is lower
-    octet-lower : getD a i 0 < getD b i 0 → orderOf a b ≡ Ordering·lt
-    octet-lower l = octets ∙ rw (compare-below (getD a i 0) (getD b i 0) l)
-
-    -- the second octet is lower
-    octet-higher : getD b i 0 < getD a i 0 → orderOf a b ≡ Ordering·gt
-    octet-higher l =
-        octets ∙ rw (compare-flip (getD b i 0) (getD a i 0), compare-below (getD b i 0) (getD a i 0) l)
-
-    -- neither is: the order is that of what follows
-    octets-tie : getD b i 0 ≤ getD a i 0 → getD a i 0 ≤ getD b i 0 → SameFrom a b (i + 1)
-    octets-tie l m =
-        let same : getD a i 0 ≡ getD b i 0 = omega arith in
-        octets ∙ rw (same, compare-refl (getD b i 0))
-
--- ---- the loop
-
-abbrev Inv-loop : tie.InvT-loop
-Inv-loop a b i₀ i = (i ≤ length a) × (i ≤ length b) × SameFrom a b i
-
-abbrev μ-loop : tie.MeasureT-loop
-μ-loop a b i₀ i = length a - i
-
--- both slices have an octet at i: the loop's head, and what is known there
-abbrev head : tie.Else1 Inv-loop μ-loop → tie.At-loop Inv-loop μ-loop
-head c = c .before .before
-
--- nothing was passed yet
-loop-holds : tie.Need-loop-holds Inv-loop μ-loop
-loop-holds c = (search needs, search needs, refl)
-
--- the second slice ends first
-returns : tie.Need-returns Inv-loop μ-loop
-returns c =
-    let l = c .before .before in
-    let args = l .before .args in
-    sym
-    (second-ends (args .a .now) (args .b .now) (l .loop .i) (l .loop .inv .2) (c .before .loop-test .taken) (c .if1 .taken))
-
-shared-slice-read-x : tie.Need-shared-slice-read-x Inv-loop μ-loop
-shared-slice-read-x c = search needs
-
-shared-slice-read-y : tie.Need-shared-slice-read-y Inv-loop μ-loop
-shared-slice-read-y c = search needs
-
--- the first octet is lower
-returns-2 : tie.Need-returns-2 Inv-loop μ-loop
+-- the first four octets are lower
+returns-2 : tie.Need-returns-2
 returns-2 c =
-    let both = c .before .before .before in
-    let l = head both in
-    let args = l .before .args in
+    let starts = c .before in
+    let a = starts .before .before .before .before .before .before .args in
     sym
-    (octet-lower (args .a .now) (args .b .now) (l .loop .i) (l .loop .inv .2) (both .before .loop-test .taken) (both .if1 .left)
-    (c .if2 .taken))
+    (read-lower (a .a .now) (a .b .now) 4 0 (starts .before .four .result) (starts .four2 .result)
+    (starts .before .four .ensures) (starts .four2 .ensures) (search needs) (search needs) (omega (arith, c .if3 .taken)))
 
--- the second octet is lower
-returns-3 : tie.Need-returns-3 Inv-loop μ-loop
+-- the second four are
+returns-3 : tie.Need-returns-3
 returns-3 c =
-    let both = c .before .before .before .before in
-    let l = head both in
-    let args = l .before .args in
+    let starts = c .before .before in
+    let a = starts .before .before .before .before .before .before .args in
     sym
-    (octet-higher (args .a .now) (args .b .now) (l .loop .i) (l .loop .inv .2) (both .before .loop-test .taken) (both .if1 .left)
-    (c .if3 .taken))
+    (read-higher (a .a .now) (a .b .now) 4 0 (starts .before .four .result) (starts .four2 .result)
+    (starts .before .four .ensures) (starts .four2 .ensures) (search needs) (search needs) (omega (arith, c .if4 .taken)))
 
-add-i : tie.Need-add-i Inv-loop μ-loop
-add-i c = search needs
+compare-blocks-requires-2 : tie.Need-compare-blocks-requires-2
+compare-blocks-requires-2 c κs = search needs
 
-loop-less : tie.Need-loop-less Inv-loop μ-loop
-loop-less c = search needs
-
--- the octets tie
-loop-again : tie.Need-loop-again Inv-loop μ-loop
-loop-again c =
-    let both = c .before .before .before .before in
-    let l = head both in
-    let args = l .before .args in (
-      search needs,
-      search needs,
-      octets-tie (args .a .now) (args .b .now) (l .loop .i) (l .loop .inv .2) (both .before .loop-test .taken) (both .if1 .left)
-          (c .before .if2 .left) (c .if3 .left),
-    )
-
--- the first slice ends first
-returns-4 : tie.Need-returns-4 Inv-loop μ-loop
+-- both are the same
+returns-4 : tie.Need-returns-4
 returns-4 c =
-    let l = c .before .before in
-    let args = l .before .args in
-    sym
-    (first-ends (args .a .now) (args .b .now) (l .loop .i) (l .loop .inv .2) (c .before .loop-test .left) (c .if4 .taken))
-
--- both end
-returns-5 : tie.Need-returns-5 Inv-loop μ-loop
-returns-5 c =
-    let l = c .before .before in
-    let args = l .before .args in
-    sym
-    (both-end (args .a .now) (args .b .now) (l .loop .i) (l .loop .inv .2) (c .before .loop-test .left) (c .if4 .left))
+    let starts = c .before .before .before in
+    let a = starts .before .before .before .before .before .before .args in
+    c .compare-blocks2 .ensures
+    ∙ sym
+    (read-same (a .a .now) (a .b .now) 4 0 (starts .before .four .result) (starts .four2 .result)
+    (starts .before .four .ensures) (starts .four2 .ensures) (search needs) (search needs)
+    (omega (arith, c .before .before .if3 .left)) (omega (arith, c .before .if4 .left)))
 
 pub compare-octets-spec : {M : Type 1} → statement M
 compare-octets-spec =
     tie.close
     (tie.spec
-    Inv-loop
-    μ-loop
-    loop-holds
+    compare-blocks-requires
     returns
-    shared-slice-read-x
-    shared-slice-read-y
+    four-requires
+    four-requires-2
     returns-2
     returns-3
-    add-i
-    loop-less
-    loop-again
-    returns-4
-    returns-5)
+    compare-blocks-requires-2
+    returns-4)
