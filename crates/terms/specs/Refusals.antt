@@ -45,6 +45,10 @@ expansionMost = 128
 abbrev pub lineMost : ℕ
 lineMost = 512
 
+-- the most names of a list (14)
+abbrev pub namesMost : ℕ
+namesMost = 1024
+
 -- ---- refusals
 
 -- a refusal by its number, place and detail

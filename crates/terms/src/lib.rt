@@ -18,7 +18,7 @@ pub struct TextPosition(pub usize);
 // A position in a slice of records, in octets from its start.
 pub struct RecordPosition(pub usize);
 
-// Why a call is refused: its number in documents 01 and 02, which text (1 or 2, 0 neither), and the detail.
+// Why a call is refused: its number in documents 01 and 02, which text or list (1 or 2, 0 neither), and the detail.
 pub struct Refusal {
     pub number: u32,
     pub place: u32,
@@ -72,6 +72,9 @@ pub const EXPANSION_MOST: usize = 128;
 // The longest line of UnicodeData.txt that is taken, in octets.
 pub const LINE_MOST: usize = 512;
 
+// The most names of a list.
+pub const NAMES_MOST: usize = 1024;
+
 // The kinds of record.
 pub const KIND_TEXT: u32 = 1;
 
@@ -104,6 +107,11 @@ pub const REFUSED_RECORD_BODY: u32 = 13;
 
 // 8 again: no room for a whole record.
 pub const REFUSED_RECORD_ROOM: u32 = 8;
+
+pub const REFUSED_NAME_COUNT: u32 = 14;
+
+// 8 again: no room for the keys of two lists, or for the numbers of the first list's names.
+pub const REFUSED_LIST_ROOM: u32 = 8;
 
 pub const REFUSED_LINE_LENGTH: u32 = 20;
 
