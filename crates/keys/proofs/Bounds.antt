@@ -6,7 +6,7 @@ use native.Mathlib.Omega.{arith}
 use mathlib.Core.Bool.{true, true≢false}
 use mathlib.Core.Option.{Option, none, some}
 use mathlib.Core.List.{List}
-use lib.ListN.{length}
+use lib.ListN.{length, length-map}
 use borrow.Author.Tests.{leb-true}
 use Rattle.terms.specs.Refusals.{expansionMost}
 use Rattle.terms.specs.declared.Collation.{Collation}
@@ -17,7 +17,7 @@ use Rattle.utf8.proofs.Decoders.{characters-count}
 use Rattle.decompose.proofs.Demand3.{accepted-lookups, accepted-key}
 use Rattle.table.specs.Table.{Table, mappingOf}
 use Rattle.decompose.specs.TableCheck.{tableRefusal}
-use Rattle.keys.specs.Keys.{prepared, unicodePrepared, tableUnder, roomFor}
+use Rattle.keys.specs.Keys.{upper, prepared, unicodePrepared, keyOf, tableUnder, roomFor}
 use Rattle.keys.specs.Summaries.{characterCount, roomy}
 
 -- none are counted but under collation 3, and there the table was accepted
@@ -40,6 +40,18 @@ key-most t text accepted = go (characters text) refl
         → roomFor (unicodePrepared (mappingOf t) text o) ≤ expansionMost * length text
     go none e = zero-le
     go (some chs) e = omega (arith, accepted-key t accepted chs, characters-count utf8-decodes text chs e)
+
+-- so has a key under every collation, over a table that the collation takes
+pub key-within : (k : Collation) (t : Table) (text : List ℕ) → tableUnder k t ≡ none
+    → length (keyOf k (mappingOf t) text) ≤ expansionMost * length text
+key-within Octet t text taken = omega (arith)
+key-within AsciiCasemap t text taken = omega (arith, length-map text upper)
+key-within UnicodeCasemap t text taken = go (characters text) refl
+  where
+    go : (o : Option (List Character)) → characters text ≡ o
+        → length (unicodePrepared (mappingOf t) text o .key) ≤ expansionMost * length text
+    go none e = omega (arith)
+    go (some chs) e = rw e at (key-most t text taken)
 
 -- a buffer that is roomy for a text has room for its key
 pub record Roomy (k : Collation) (n room : ℕ) : Type 0 where

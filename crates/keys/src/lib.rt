@@ -6,6 +6,7 @@ mod unicode;
 
 use terms::Collation;
 ghost use mathlib.Core.Path.{_≡_};
+ghost use mathlib.Core.List.{[], _∷_};
 ghost use mathlib.Core.Option.{none};
 ghost use Prim.Native.Nat.{_*_, _≤_};
 ghost use lib.ListN.{length};
@@ -14,7 +15,7 @@ ghost use Rattle.utf8.specs.Utf8.{characters};
 ghost use Rattle.table.specs.Table.{table, mappingOf};
 ghost use Rattle.decompose.specs.TableCheck.{tableRefusal};
 ghost use Rattle.keys.specs.Keys.{unicodePrepared, prepared, tableUnder, roomFor, keyed};
-ghost use Rattle.keys.specs.Summaries.{summaryNumbers, preparedNumbers, shownAt, roomy, KeyFilled};
+ghost use Rattle.keys.specs.Summaries.{summaryNumbers, preparedNumbers, placeNumber, shownAt, roomy, KeyFilled};
 
 // Where a key stands: it is the text itself, or stands at the start of the key buffer.
 pub enum KeyPlace {
@@ -41,18 +42,8 @@ pub fn size_key(collation: Collation, text: &[u8], entries: &[u32], pool: &[u32]
         (prepared collation (mappingOf (table (now (entries .entry)) (now (pool .entry)))) (now (text .entry))) ⌝ }
 {
     match collation {
-        Collation::Octet => Summary {
-            valid: true,
-            lookups: 0,
-            key_length: text.len(),
-            place: KeyPlace::Text,
-        },
-        Collation::AsciiCasemap => Summary {
-            valid: true,
-            lookups: 0,
-            key_length: text.len(),
-            place: KeyPlace::Buffer,
-        },
+        Collation::Octet => plain(text.len(), KeyPlace::Text),
+        Collation::AsciiCasemap => plain(text.len(), KeyPlace::Buffer),
         Collation::UnicodeCasemap => {
             // An invalid text is its own key.
             if utf8::is_valid(text) {
@@ -60,6 +51,18 @@ pub fn size_key(collation: Collation, text: &[u8], entries: &[u32], pool: &[u32]
             }
             unicode::kept(text.len())
         }
+    }
+}
+
+// What preparing a text of so many octets comes to where no table is read.
+fn plain(text_length: usize, place: KeyPlace) -> Summary
+    ensures { λ r. ⌜ summaryNumbers r ≡ 1 ∷ 0 ∷ «text_length» ∷ placeNumber place ∷ [] ⌝ }
+{
+    Summary {
+        valid: true,
+        lookups: 0,
+        key_length: text_length,
+        place,
     }
 }
 
@@ -90,6 +93,36 @@ pub fn write_key(
             if summary.valid {
                 unicode::write_unicode(text, entries, pool, key);
             }
+        }
+    }
+}
+
+// Prepares a text in one walk, its key not being sized first: the buffer has room for it.
+pub fn fill_key(
+    collation: Collation,
+    text: &[u8],
+    entries: &[u32],
+    pool: &[u32],
+    key: &mut [u8],
+) -> Summary
+    requires { ⌜ length (now text) ≤ textMost ⌝ }
+    requires { ⌜ tableUnder collation (table (now entries) (now pool)) ≡ none ⌝ }
+    requires { ⌜ roomFor (prepared collation (mappingOf (table (now entries) (now pool))) (now text)) ≤ length (now key) ⌝ }
+    ensures { λ r. ⌜ KeyFilled (prepared collation (mappingOf (table (now (entries .entry)) (now (pool .entry))))
+        (now (text .entry))) (now (key .entry)) r (now (key .exit)) ⌝ }
+{
+    match collation {
+        Collation::Octet => plain(text.len(), KeyPlace::Text),
+        Collation::AsciiCasemap => {
+            ascii::write_ascii(text, key);
+            plain(text.len(), KeyPlace::Buffer)
+        }
+        Collation::UnicodeCasemap => {
+            // An invalid text is its own key.
+            if utf8::is_valid(text) {
+                return unicode::write_unicode(text, entries, pool, key);
+            }
+            unicode::kept(text.len())
         }
     }
 }

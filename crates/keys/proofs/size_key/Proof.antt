@@ -14,8 +14,14 @@ use Rattle.keys.proofs.size_key.Tie as tie
 enum-told : tie.Need-enum-told
 enum-told c = search needs
 
+plain-requires : tie.Need-plain-requires
+plain-requires c κs = search needs
+
 enum-told-2 : tie.Need-enum-told-2
 enum-told-2 c = search needs
+
+plain-requires-2 : tie.Need-plain-requires-2
+plain-requires-2 c κs = search needs
 
 enum-told-3 : tie.Need-enum-told-3
 enum-told-3 c = search needs
@@ -36,10 +42,13 @@ kept-requires : tie.Need-kept-requires
 kept-requires c κs = search needs
 
 returns-2 : tie.Need-returns-2
-returns-2 c = rw (c .enum-told .given .1)
+returns-2 c = rw (c .before .enum-told .given .1) (c .plain .ensures)
 
 returns-3 : tie.Need-returns-3
-returns-3 c = rw (c .enum-told2 .given .1, length-map (c .before .before .before .before .before .args .text .now) upper)
+returns-3 c =
+    let told = c .before in
+    rw (told .enum-told2 .given .1, length-map (told .before .before .before .before .before .args .text .now) upper)
+    (c .plain2 .ensures)
 
 returns-4 : tie.Need-returns-4
 returns-4 c =
@@ -56,7 +65,9 @@ size-key-spec =
     tie.close
     (tie.spec
     enum-told
+    plain-requires
     enum-told-2
+    plain-requires-2
     enum-told-3
     is-valid-requires
     size-unicode-requires
