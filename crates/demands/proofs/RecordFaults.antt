@@ -18,7 +18,7 @@ use Rattle.records.specs.Reading.{Reading, end, stopped, item, saidLength, shor
 use Rattle.records.specs.Reading.{judged, readFollowing, readRest, readAt}
 use Rattle.records.specs.Writing.{writingChecks, writingRefusal}
 use Rattle.records.proofs.Framing.{readRest-short, readRest-whole, readAt-end, readAt-rest}
-use Rattle.records.proofs.Judging.{judged-short, judged-key, judged-unfit, reads-text, reads-key, reads-unknown}
+use Rattle.records.proofs.Judging.{judged-short, judged-key, judged-unfit, reads-known, reads-unknown}
 use Rattle.demands.specs.Faults.{FirstFault}
 use Rattle.demands.specs.Records.{TooFew, WrongBody, readFaults, writeFaults}
 use Rattle.demands.proofs.Reflect.{leb-exactly, ltb-exactly, eqb-exactly, and-exactly, or-exactly, or3-exactly}
@@ -32,7 +32,11 @@ pub write-row : (i : Item) (p m n d : ℕ) → (writingRefusal i p m ≡ some (r
 write-row i p m n d =
     row-exactly (writingChecks rules i p m) (writeFaults i p m) (
       renders-plain (not (fits rules i)) 13 (item-exactly i),
-      (renders-check (ltb (m - p) (length (recordOf i))) 8 (length (recordOf i)) (ltb-exactly (m - p) (length (recordOf i))), tt),
+      (
+        renders-check (ltb (m - p) (length (recordOf i))) 8 (length (recordOf i)) (ltb-exactly (m - p) (length
+            (recordOf i))),
+        tt,
+      ),
     )
     n
     d
@@ -62,7 +66,7 @@ kind-exactly kind =
     (not-exactly (eqb kind 2 || false) (rw (or-false (eqb kind 2)) (eqb-exactly kind 2)))
 
 -- 11
-few-exactly : (s : List ℕ) (p : ℕ) → (short (drop p s) ≡ true) ↔ TooFew s p
+pub few-exactly : (s : List ℕ) (p : ℕ) → (short (drop p s) ≡ true) ↔ TooFew s p
 unfolding short
 few-exactly s p =
     let n = saidLength (drop p s) in
@@ -73,7 +77,7 @@ few-exactly s p =
 -- ---- the row of reading
 
 -- the refusal that reading gives, if it is one
-abbrev refusalOf : Reading → Option Refusal
+abbrev pub refusalOf : Reading → Option Refusal
 refusalOf end = none
 refusalOf (stopped x) = some x
 refusalOf (item i n) = none
@@ -113,10 +117,13 @@ following-refusal next octets = go (ℕ-discrete (kindIn octets) 1) (ℕ-discret
   where
     go : Dec (kindIn octets ≡ 1) → Dec (kindIn octets ≡ 2)
         → refusalOf (readFollowing rules next octets) ≡ first (followingChecks octets)
-    go (yes e) b = ap refusalOf (reads-text next octets e) ∙ (rw e (text-refusal next (bodyIn octets)))
-    go (no a) (yes e) = ap refusalOf (reads-key next octets e) ∙ (rw e (key-refusal next (bodyIn octets)))
+    go (yes e) b = ap refusalOf (reads-known rules next octets 1 refl e) ∙ (rw e (text-refusal next (bodyIn octets)))
+    go (no a) (yes e) = ap refusalOf (reads-known rules next octets 2 refl e) ∙ (rw e (key-refusal next (bodyIn octets)))
     go (no a) (no b) =
-        ap refusalOf (reads-unknown next octets a b) ∙ rw (ne-eqb (kindIn octets) 1 a, ne-eqb (kindIn octets) 2 b)
+        let unknown : among (kindIn octets) (rules .kinds) ≡ false =
+        rw (ne-eqb (kindIn octets) 1 a, ne-eqb (kindIn octets) 2 b)
+        in
+        ap refusalOf (reads-unknown rules next octets unknown) ∙ rw unknown
 
 -- of the octets from a position on
 rest-refusal : (p : ℕ) (rest : List ℕ)
@@ -129,7 +136,7 @@ rest-refusal p rest = go (short rest) refl
     go false e = ap refusalOf (readRest-whole rules p rest e) ∙ rw e (following-refusal _ (following rest))
 
 -- a refusal is what reading gives exactly where it is this
-stopped-exactly : (v : Reading) (x : Refusal) → (v ≡ stopped x) ↔ (refusalOf v ≡ some x)
+pub stopped-exactly : (v : Reading) (x : Refusal) → (v ≡ stopped x) ↔ (refusalOf v ≡ some x)
 stopped-exactly end x = (λ e. cc, λ e. absurd (none-some x e))
 stopped-exactly (stopped y) x = (λ e. cc, λ e. cc)
 stopped-exactly (item i n) x = (λ e. cc, λ e. absurd (none-some x e))
@@ -158,7 +165,7 @@ read-row s p inside n d =
 -- ---- the numbers
 
 -- of three checks
-three : (a b c : Bool) (y : Refusal) → first (check a 11 0 0 ∷ check b 12 0 0 ∷ check c 13 0 0 ∷ []) ≡ some y
+pub three : (a b c : Bool) (y : Refusal) → first (check a 11 0 0 ∷ check b 12 0 0 ∷ check c 13 0 0 ∷ []) ≡ some y
     → (y ≡ refusal 11 0 0) ⊎ (y ≡ refusal 12 0 0) ⊎ (y ≡ refusal 13 0 0)
 three true b c y e = inl (cc)
 three false true c y e = inr (inl (cc))

@@ -5,7 +5,7 @@ use Prim.Native.Nat.{ℕ}
 use mathlib.Core.List.{List, [], _∷_, _++_}
 use Rattle.terms.specs.Refusals.{refusal}
 use Rattle.records.specs.Numbers.{littleEndian, numberIn}
-use Rattle.records.specs.Items.{rules, ofText, ofKey, fieldOctets, framed, recordOf}
+use Rattle.records.specs.Items.{rules, listRules, ofText, ofKey, fieldOctets, framed, recordOf}
 use Rattle.records.specs.Reading.{end, stopped, item, short, fieldsIn, readFollowing, readRest, readAt}
 use Rattle.records.specs.declared.KeyFields.{KeyFields}
 
@@ -50,6 +50,15 @@ case-second = refl
 case-end : readAt rules both 21 ≡ end
 unfolding readAt
 case-end = refl
+
+-- in a list the text is read, and the key is 12
+case-name : readAt listRules both 0 ≡ item (ofText small) 8
+unfolding readAt readRest readFollowing short numberIn
+case-name = refl
+
+case-no-name : readAt listRules both 8 ≡ stopped (refusal 12 0 0)
+unfolding readAt readRest readFollowing short numberIn
+case-no-name = refl
 
 -- ---- refusals: past the end, three octets left, a length of 1, a kind in both octets, three octets of a key's body, a flag of 2
 

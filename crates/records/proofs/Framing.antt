@@ -18,6 +18,7 @@ use Rattle.records.specs.Items.{Rules, Item, among, fits}
 use Rattle.records.specs.Reading.{end, stopped, item, saidLength, short, following, kindIn, bodyIn, itemIn}
 use Rattle.records.specs.Reading.{judged, readFollowing, readRest, readAt}
 use Rattle.records.specs.Promises.{wholeLength}
+use Rattle.records.proofs.Judging.{reads-known, reads-unknown}
 
 -- octets begin with a length, and at least as many follow; it has room for a kind
 pub record Whole (rest : List ℕ) : Type 0 where
@@ -88,12 +89,12 @@ judged-end r n (some i) e = go (fits r i) refl
     go false f = stopped-end (rw f at e)
 
 following-end : (r : Rules) (n : ℕ) (octets : List ℕ) → readFollowing r n octets ≡ end → ⊥
-unfolding readFollowing
 following-end r n octets e = go (among (kindIn octets) (r .kinds)) refl
   where
     go : (b : Bool) → among (kindIn octets) (r .kinds) ≡ b → ⊥
-    go true f = judged-end r n (itemIn (kindIn octets) (bodyIn octets)) (rw f at e)
-    go false f = stopped-end (rw f at e)
+    go true f =
+        judged-end r n (itemIn (kindIn octets) (bodyIn octets)) (sym (reads-known r n octets (kindIn octets) f refl) ∙ e)
+    go false f = stopped-end (sym (reads-unknown r n octets f) ∙ e)
 
 rest-end : (r : Rules) (p : ℕ) (rest : List ℕ) → readRest r p rest ≡ end → ⊥
 unfolding readRest

@@ -5,9 +5,9 @@ use Prim.Native.Nat.{ℕ, _-_, _≤_, _<_}
 use mathlib.Core.Bool.{true, false}
 use mathlib.Core.List.{List}
 use lib.ListN.{length, drop, length-drop}
-use borrow.Author.Tests.{le-leb, lt-leb, ne-eqb}
+use borrow.Author.Tests.{le-leb, lt-leb}
 use Rattle.terms.specs.Refusals.{refusal}
-use Rattle.records.specs.Items.{Rules, rules, ofKey, keyFits}
+use Rattle.records.specs.Items.{Rules, ofKey, among, keyFits}
 use Rattle.records.specs.Reading.{stopped, item, kindIn, bodyIn, fieldsIn, itemIn, judged, readFollowing}
 
 -- ---- the body of a key
@@ -30,16 +30,12 @@ module _ (r : Rules) (next : ℕ) (body : List ℕ) where
 
 -- ---- what follows the length, by its kind
 
-module _ (next : ℕ) (octets : List ℕ) where
-  pub reads-text : kindIn octets ≡ 1 → readFollowing rules next octets ≡ judged rules next (itemIn 1 (bodyIn octets))
+module _ (r : Rules) (next : ℕ) (octets : List ℕ) where
+  pub reads-known : (kind : ℕ) → among kind (r .kinds) ≡ true → kindIn octets ≡ kind
+      → readFollowing r next octets ≡ judged r next (itemIn kind (bodyIn octets))
   unfolding readFollowing
-  reads-text e = rw e
+  reads-known kind known e = rw (e, known)
 
-  pub reads-key : kindIn octets ≡ 2 → readFollowing rules next octets ≡ judged rules next (itemIn 2 (bodyIn octets))
+  pub reads-unknown : among (kindIn octets) (r .kinds) ≡ false → readFollowing r next octets ≡ stopped (refusal 12 0 0)
   unfolding readFollowing
-  reads-key e = rw e
-
-  pub reads-unknown : (kindIn octets ≡ 1 → ⊥) → (kindIn octets ≡ 2 → ⊥)
-      → readFollowing rules next octets ≡ stopped (refusal 12 0 0)
-  unfolding readFollowing
-  reads-unknown one two = rw (ne-eqb (kindIn octets) 1 one, ne-eqb (kindIn octets) 2 two)
+  reads-unknown unknown = rw unknown

@@ -8,4 +8,5 @@ pub mod ReadsWritten
 pub mod WritesRead
 pub mod Injective
 pub mod Octets
+pub mod Steps
 pub mod Cases

@@ -25,12 +25,13 @@ held-last kind body i e =
     itemIn-cases kind body i e (λ k s. (0, omega arith, ap octetsOf s)) (λ k four s. (4, four, ap octetsOf s))
 
 -- so many octets from a position on are those up to another
-take-part : (j m : ℕ) (s : List ℕ) → j ≤ length s → take m (drop j s) ≡ slice j (j + m) s
+pub take-part : (j m : ℕ) (s : List ℕ) → j ≤ length s → take m (drop j s) ≡ slice j (j + m) s
 take-part j m s h =
     sym (ap (drop j) (take-add j m s) ∙ drop-at (take j s) (take m (drop j s)) j (length-take-le j s h))
 
 -- what follows the length, as a part of the slice
-following-part : (s : List ℕ) (p : ℕ) → Whole (drop p s) → following (drop p s) ≡ slice (p + 4) (p + 4 + saidLength (drop p s)) s
+following-part : (s : List ℕ) (p : ℕ) → Whole (drop p s) → following (drop p s) ≡ slice (p + 4) (p + 4 + saidLength
+    (drop p s)) s
 following-part s p w =
     ap (take (saidLength (drop p s))) (drop-drop 4 p s)
     ∙ take-part (p + 4) (saidLength (drop p s)) s (omega (arith, w .four, length-drop p s))

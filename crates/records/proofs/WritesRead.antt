@@ -1,6 +1,6 @@
 -- Writing what was read: the record of an item that was read is the octets that it was read from.
 -- Assumes nothing.
-use mathlib.Core.Path.{_≡_, refl, sym, ap}
+use mathlib.Core.Path.{_≡_, refl, sym, ap, _∙_}
 use Prim.Native.Nat.{ℕ, _+_, _-_, _≤_}
 use native.Mathlib.Omega.{arith}
 use mathlib.Core.Bool.{Bool, true, false, _&&_}
@@ -17,13 +17,15 @@ use Rattle.records.specs.Items.{Rules, Item, ofText, ofKey, among, fits,
 use Rattle.records.specs.Reading.{end, stopped, item, saidLength, short, following, kindIn, bodyIn, fieldsIn, itemIn}
 use Rattle.records.specs.Reading.{judged, readFollowing, readRest, readAt}
 use Rattle.records.proofs.LittleEndian.{littleEndian-numberIn, octets-take, octets-drop}
+use Rattle.records.proofs.Judging.{reads-known, reads-unknown}
 use Rattle.records.proofs.Framing.{Whole, short-false, length-following}
 
 -- ---- what reading an item says
 
--- an item was read at a position: a whole record stands there, of its kind and body, and it fits
+-- an item was read at a position: a whole record stands there, of its kind, which is known, and its body, and it fits
 pub record Found (r : Rules) (slice : List ℕ) (p : ℕ) (i : Item) (next : ℕ) : Type 0 where
   pub whole : Whole (drop p slice)
+  pub known : among (kindIn (following (drop p slice))) (r .kinds) ≡ true
   pub held : itemIn (kindIn (following (drop p slice))) (bodyIn (following (drop p slice))) ≡ some i
   pub fit : fits r i ≡ true
   pub after : next ≡ p + 4 + saidLength (drop p slice)
@@ -48,13 +50,13 @@ judged-item r m (some j) i n e = go (fits r j) refl
     go false f = stopped-item (rw f at e)
 
 following-item : (r : Rules) (m : ℕ) (octets : List ℕ) (i : Item) (n : ℕ) → readFollowing r m octets ≡ item i n
-    → judged r m (itemIn (kindIn octets) (bodyIn octets)) ≡ item i n
-unfolding readFollowing
+    → (among (kindIn octets) (r .kinds) ≡ true) × (judged r m (itemIn (kindIn octets) (bodyIn octets)) ≡ item i n)
 following-item r m octets i n e = go (among (kindIn octets) (r .kinds)) refl
   where
-    go : (b : Bool) → among (kindIn octets) (r .kinds) ≡ b → judged r m (itemIn (kindIn octets) (bodyIn octets)) ≡ item i n
-    go true f = rw f at e
-    go false f = stopped-item (rw f at e)
+    go : (b : Bool) → among (kindIn octets) (r .kinds) ≡ b
+        → (among (kindIn octets) (r .kinds) ≡ true) × (judged r m (itemIn (kindIn octets) (bodyIn octets)) ≡ item i n)
+    go true f = (f, sym (reads-known r m octets (kindIn octets) f refl) ∙ e)
+    go false f = stopped-item (sym (reads-unknown r m octets f) ∙ e)
 
 rest-item : (r : Rules) (p : ℕ) (rest : List ℕ) (i : Item) (n : ℕ) → readRest r p rest ≡ item i n
     → (short rest ≡ false) × (readFollowing r (p + 4 + saidLength rest) (following rest) ≡ item i n)
@@ -74,11 +76,11 @@ readAt-found r slice p i n e = go (eqb p (length slice)) refl
     go true f = end-item (rw f at e)
     go false f =
         let rest = rest-item r p (drop p slice) i n (rw f at e) in
-        let judges =
-        judged-item r _ _ i n (following-item r _ (following (drop p slice)) i n (rest .1))
-        in
+        let follows = following-item r _ (following (drop p slice)) i n (rest .1) in
+        let judges = judged-item r _ _ i n (follows .1) in
         record {
           whole = short-false (drop p slice) (rest .0);
+          known = follows .0;
           held = judges .0;
           fit = judges .1;
           after = judges .2;
@@ -118,7 +120,7 @@ module _ (kind : ℕ) (body : List ℕ) (i : Item) (e : itemIn kind body ≡ som
           key (eqb-true kind 2 (each .0)) (leb-true 4 (length body) (each .1)) (cc)
       go false f false g = absurd (none-some i (rw (f, g) at e))
 
-  itemIn-kind : kindOf i ≡ kind
+  pub itemIn-kind : kindOf i ≡ kind
   itemIn-kind = itemIn-cases (λ k s. rw (s, k)) (λ k four s. rw (s, k))
 
   itemIn-body : Octets body → bodyOf i ≡ body

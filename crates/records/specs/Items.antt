@@ -25,6 +25,10 @@ pub record Rules : Type 0 where
 abbrev pub rules : Rules
 rules = record { longest = textMost; kinds = 1 ∷ 2 ∷ [] }
 
+-- a list has texts alone (request 3: "a kind 2 record is 12")
+abbrev pub listRules : Rules
+listRules = record { longest = textMost; kinds = 1 ∷ [] }
+
 -- a number is one of a list
 abbrev pub among : ℕ → List ℕ → Bool
 among n [] = false

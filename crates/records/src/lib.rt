@@ -7,11 +7,10 @@ mod numbers;
 mod reading;
 mod writing;
 
-use reading::Frame;
 use terms::RecordPosition;
 use terms::Refusal;
 ghost use mathlib.Core.Path.{_≡_};
-ghost use Rattle.records.specs.Items.{rules, ofText, ofKey};
+ghost use Rattle.records.specs.Items.{rules, listRules, ofText, ofKey};
 ghost use Rattle.records.specs.Reading.{readAt, readingOutcome, recordOutcome};
 ghost use Rattle.records.specs.Writing.{Writes};
 
@@ -42,19 +41,14 @@ pub enum Written {
 pub fn read_record(records: &[u8], position: RecordPosition) -> Record
     ensures { λ r. ⌜ recordOutcome r ≡ readingOutcome (readAt rules (now (records .entry)) (position .0)) ⌝ }
 {
-    let at = position.0;
-    if at == records.len() {
-        return Record::End;
-    }
-    if records.len() < at {
-        return reading::stopped(terms::REFUSED_RECORD_LENGTH);
-    }
-    let rest = &records[at..];
-    let frame = reading::frame_of(rest);
-    match frame {
-        Frame::Whole(n) => reading::read_following(&rest[4..4 + n], RecordPosition(at + 4 + n)),
-        Frame::Short => reading::stopped(terms::REFUSED_RECORD_LENGTH),
-    }
+    reading::read_at(records, position, true)
+}
+
+// Reads the record at a position of a list: one that is no text is refused with 12, whatever its body.
+pub fn read_name(records: &[u8], position: RecordPosition) -> Record
+    ensures { λ r. ⌜ recordOutcome r ≡ readingOutcome (readAt listRules (now (records .entry)) (position .0)) ⌝ }
+{
+    reading::read_at(records, position, false)
 }
 
 // Writes the record of a text at a position.

@@ -1,4 +1,4 @@
-// Reading one record, from its length on.
+// Reading one record.
 use super::Record;
 use super::fields::key_fits;
 use super::fields::read_fields;
@@ -10,19 +10,38 @@ ghost use Prim.Native.Nat.{_≤_};
 ghost use lib.ListN.{length};
 ghost use Rattle.terms.specs.Refusals.{refusal};
 ghost use Rattle.records.specs.Items.{rules};
-ghost use Rattle.records.specs.Reading.{itemIn, judged, readFollowing, readingOutcome, recordOutcome};
-ghost use Rattle.records.specs.Promises.{wholeLength, frameLength};
+ghost use Rattle.records.specs.Reading.{itemIn, judged, readFollowing, readAt, readingOutcome, recordOutcome};
+ghost use Rattle.records.specs.Promises.{rulesFor, wholeLength, frameLength};
 
 // What the octets from a position on begin with.
-pub enum Frame {
+enum Frame {
     // A length, and at least as many octets after it.
     Whole(usize),
     // Fewer, or a length that leaves no room for a kind.
     Short,
 }
 
+// Reads the record at a position: a text, and where keys are read too a key, which is else refused with 12.
+pub fn read_at(records: &[u8], position: RecordPosition, keys: bool) -> Record
+    ensures { λ r. ⌜ recordOutcome r ≡ readingOutcome (readAt (rulesFor keys) (now (records .entry)) (position .0)) ⌝ }
+{
+    let at = position.0;
+    if at == records.len() {
+        return Record::End;
+    }
+    if records.len() < at {
+        return stopped(terms::REFUSED_RECORD_LENGTH);
+    }
+    let rest = &records[at..];
+    let frame = frame_of(rest);
+    match frame {
+        Frame::Whole(n) => read_following(&rest[4..4 + n], RecordPosition(at + 4 + n), keys),
+        Frame::Short => stopped(terms::REFUSED_RECORD_LENGTH),
+    }
+}
+
 // The length of the record that the octets begin with, unless 11 applies.
-pub fn frame_of(rest: &[u8]) -> Frame
+fn frame_of(rest: &[u8]) -> Frame
     ensures { λ r. ⌜ frameLength r ≡ wholeLength (now (rest .entry)) ⌝ }
 {
     if rest.len() < 4 {
@@ -40,15 +59,18 @@ pub fn frame_of(rest: &[u8]) -> Frame
 }
 
 // Reads what follows the length of a record that ends at a position: its kind and its body.
-pub fn read_following(octets: &[u8], next: RecordPosition) -> Record
+fn read_following(octets: &[u8], next: RecordPosition, keys: bool) -> Record
     requires { ⌜ 2 ≤ length (now octets) ⌝ }
     requires { ⌜ length (now octets) ≤ next .0 ⌝ }
-    ensures { λ r. ⌜ recordOutcome r ≡ readingOutcome (readFollowing rules (next .0) (now (octets .entry))) ⌝ }
+    ensures { λ r. ⌜ recordOutcome r ≡ readingOutcome (readFollowing (rulesFor keys) (next .0) (now (octets .entry))) ⌝ }
 {
     let kind = number_of(&octets[..2]);
     let body = &octets[2..];
     if kind == terms::KIND_TEXT as usize {
         return read_text(body, next);
+    }
+    if !keys {
+        return stopped(terms::REFUSED_RECORD_KIND);
     }
     if kind == terms::KIND_KEY as usize {
         return read_key(body, next);
@@ -84,7 +106,7 @@ fn read_key(body: &[u8], next: RecordPosition) -> Record
 }
 
 // A record refused by its number.
-pub fn stopped(number: u32) -> Record
+fn stopped(number: u32) -> Record
     ensures { λ r. ⌜ r ≡ Record.Refused (refusal number 0 0) ⌝ }
 {
     Record::Refused(Refusal {

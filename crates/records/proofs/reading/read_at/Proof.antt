@@ -1,5 +1,5 @@
--- `records::read_record` meets its contract: the end, past it, or what `frame_of` and `read_following` say of the octets from the
--- position on.
+-- `records::reading::read_at` meets its contract: the end, past it, or what `frame_of` and `read_following` say of the
+-- octets from the position on.
 -- Assumes nothing.
 use mathlib.Core.Path.{_≡_, sym, ap, ap₂, _∙_}
 use Prim.Native.Nat.{ℕ, _+_, _-_}
@@ -9,14 +9,13 @@ use mathlib.Core.List.{List}
 use lib.ListN.{length, take, drop, length-drop}
 use borrow.Author.Needs.{needs}
 use Rattle.terms.proofs.Parts.{take-drop}
-use Rattle.records.specs.Items.{rules}
 use Rattle.records.specs.Reading.{saidLength, short, following, readFollowing, readRest}
 use Rattle.records.specs.Reading.{readAt, recordOutcome, readingOutcome}
-use Rattle.records.specs.Promises.{wholeLength, frameLength}
+use Rattle.records.specs.Promises.{rulesFor, wholeLength, frameLength}
 use Rattle.records.proofs.Framing.{Whole, short-false, wholeLength-some, wholeLength-none, length-following}
 use Rattle.records.proofs.Framing.{readRest-short, readRest-whole, readAt-end, readAt-rest, readAt-past}
-use Rattle.records.proofs.read_record.Statement.{statement}
-use Rattle.records.proofs.read_record.Tie as tie
+use Rattle.records.proofs.reading.read_at.Statement.{statement}
+use Rattle.records.proofs.reading.read_at.Tie as tie
 
 -- where the octets from the position on were looked at: the function's entry, and those octets
 abbrev start : tie.After-frame-of → tie.Start
@@ -38,9 +37,9 @@ inside c = c .before .before .before .if1 .left
 
 -- so what is read is what they are read as
 from-rest : (c : tie.After-frame-of)
-    → readAt rules (start c .args .records .now) (start c .args .position .0)
-    ≡ readRest rules (start c .args .position .0) (rest (start c))
-from-rest c = readAt-rest rules (start c .args .records .now) (start c .args .position .0) (inside c)
+    → readAt (rulesFor (start c .args .keys)) (start c .args .records .now) (start c .args .position .0)
+    ≡ readRest (rulesFor (start c .args .keys)) (start c .args .position .0) (rest (start c))
+from-rest c = let a = start c .args in readAt-rest (rulesFor (a .keys)) (a .records .now) (a .position .0) (inside c)
 
 -- a whole record of so many octets
 abbrev said : tie.After-known-told → ℕ
@@ -49,7 +48,8 @@ said c = c .before .frame .given .0 .0
 abbrev called : tie.After-known-told → tie.After-frame-of
 called c = c .before .before .before
 
-unshort : (c : tie.After-known-told) → (short (rest (start (called c))) ≡ false) × (said c ≡ saidLength (rest (start (called c))))
+unshort : (c : tie.After-known-told) → (short (rest (start (called c))) ≡ false) × (said c ≡ saidLength (rest (start
+    (called c))))
 unshort c = wholeLength-some _ (said c) (sym (ap frameLength (c .before .frame .given .1)) ∙ framed (called c))
 
 -- whose octets are there
@@ -69,7 +69,7 @@ lent c =
 returns : tie.Need-returns
 returns c =
     let a = c .before .before .args in
-    sym (ap readingOutcome (readAt-end rules (a .records .now) (a .position .0) (c .if1 .taken)))
+    sym (ap readingOutcome (readAt-end (rulesFor (a .keys)) (a .records .now) (a .position .0) (c .if1 .taken)))
 
 stopped-requires : tie.Need-stopped-requires
 stopped-requires c κs = search needs
@@ -79,7 +79,7 @@ returns-2 : tie.Need-returns-2
 returns-2 c =
     let a = c .before .before .before .before .args in
     ap recordOutcome (c .stopped .ensures)
-    ∙ sym (ap readingOutcome (readAt-past rules (a .records .now) (a .position .0) (c .before .if2 .taken)))
+    ∙ sym (ap readingOutcome (readAt-past (rulesFor (a .keys)) (a .records .now) (a .position .0) (c .before .if2 .taken)))
 
 sub-rest : tie.Need-sub-rest
 sub-rest c = search needs
@@ -119,11 +119,11 @@ part-read-following-end c =
       length-drop (a .position .0) (a .records .now),
     )
 
-add-t17 : tie.Need-add-t17
-add-t17 c = search needs
-
 add-t18 : tie.Need-add-t18
-add-t18 c =
+add-t18 c = search needs
+
+add-t19 : tie.Need-add-t19
+add-t19 c =
     let w = c .before in
     let a = start (called w) .args in
     omega (arith, whole w .held, whole w .four, unshort w .1, length-drop (a .position .0) (a .records .now))
@@ -148,23 +148,26 @@ returns-3 c =
     let w = c .before .before in
     let a = start (called w) .args in
     c .read-following .ensures
-    ∙ ap₂ (λ (n : ℕ) (octets : List ℕ). readingOutcome (readFollowing rules (a .position .0 + 4 + n) octets)) (unshort w .1)
+    ∙ ap₂ (λ (n : ℕ) (octets : List ℕ). readingOutcome (readFollowing (rulesFor (a .keys)) (a .position .0 + 4 + n) octets))
+    (unshort w .1)
     (lent w)
     ∙ sym
     (ap readingOutcome
-    (from-rest (called w) ∙ readRest-whole rules (a .position .0) (rest (start (called w))) (unshort w .0)))
+    (from-rest (called w) ∙ readRest-whole (rulesFor (a .keys)) (a .position .0) (rest (start (called w))) (unshort w .0)))
 
 -- fewer octets than it says
 returns-4 : tie.Need-returns-4
 returns-4 c =
     let framing = c .before .before .before in
     let a = start framing .args in
-    let few = wholeLength-none (rest (start framing)) (sym (ap frameLength (c .before .enum-told .given .1)) ∙ framed framing) in
+    let few = wholeLength-none (rest (start framing)) (sym (ap frameLength (c
+    .before .enum-told .given .1)) ∙ framed framing) in
     ap recordOutcome (c .stopped2 .ensures)
-    ∙ sym (ap readingOutcome (from-rest framing ∙ readRest-short rules (a .position .0) (rest (start framing)) few))
+    ∙ sym (ap readingOutcome (from-rest framing ∙ readRest-short (rulesFor (a .keys)) (a .position .0) (rest
+    (start framing)) few))
 
-pub read-record-spec : {M : Type 1} → statement M
-read-record-spec =
+pub read-at-spec : {M : Type 1} → statement M
+read-at-spec =
     tie.close
     (tie.spec
     returns
@@ -179,8 +182,8 @@ read-record-spec =
     sub-read-following
     part-read-following-start
     part-read-following-end
-    add-t17
     add-t18
+    add-t19
     read-following-requires
     enum-told
     stopped-requires-2
