@@ -1,0 +1,7 @@
+pub mod Copying
+pub mod Halves
+pub mod KeyOrders
+pub mod Keys
+pub mod Merged
+pub mod Recursion
+pub mod Sorting
