@@ -1,0 +1,10 @@
+pub mod Cases
+pub mod Finding
+pub mod Leading
+pub mod Meaning
+pub mod Numbering
+pub mod Places
+pub mod Scattered
+pub mod Telling
+pub mod Those
+pub mod Walked
