@@ -1,0 +1,8 @@
+pub mod Answers
+pub mod Ended
+pub mod Injective
+pub mod Keyed
+pub mod Refusing
+pub mod Sharing
+pub mod Steps
+pub mod Walks

@@ -1,0 +1,144 @@
+-- Which names two lists share (document 02, request 3): a call on two lists as one value, its refusals in the paper's order,
+-- what it answers, and what it leaves in the store and in the arrays.
+-- Assumes nothing.
+use mathlib.Core.Path.{_≡_}
+use Prim.Native.Nat.{ℕ}
+use mathlib.Core.Bool.{_||_}
+use mathlib.Core.Option.{Option, none, some}
+use mathlib.Core.List.{List, [], _∷_, _++_, map}
+use lib.Dec.{ltb}
+use lib.ListN.{length}
+use Rattle.terms.specs.Lists.{each, over}
+use Rattle.terms.specs.Refusals.{namesMost, refusal, check, first, Outcome, refused, gives, answer}
+use Rattle.terms.specs.declared.Collation.{Collation}
+use Rattle.terms.specs.declared.Refusal.{Refusal}
+use Rattle.table.specs.Mapping.{Mapping}
+use Rattle.table.specs.Table.{Table, table, mappingOf}
+use Rattle.keys.specs.Keys.{keyOf}
+use Rattle.prepare.specs.Calls.{collationCheck, tableCheck}
+use Rattle.partners.specs.Partners.{equalPairs, partnered, partnerOf, keyPositions}
+use Rattle.lists.specs.Names.{namesIn, listFault}
+use Rattle.lists.specs.declared.Shared.{Shared}
+use Rattle.lists.specs.declared.Shared.the-variants.{Found, Refused}
+
+-- ---- a call
+
+-- a call on two lists: the collation that its number names, if it names one; the lists; the table; store and arrays as lent
+pub record ListsCall : Type 0 where
+  pub collation : Option Collation
+  pub firstList : List ℕ
+  pub secondList : List ℕ
+  pub table : Table
+  pub store : List ℕ
+  pub partners : List ℕ
+  pub positions : List ℕ
+
+-- a call by the parameters of a function
+abbrev pub listsCall : Option Collation → List ℕ → List ℕ → List ℕ → List ℕ → List ℕ → List ℕ → List ℕ → ListsCall
+listsCall k one two entries pool s p q = record {
+  collation = k;
+  firstList = one;
+  secondList = two;
+  table = table entries pool;
+  store = s;
+  partners = p;
+  positions = q;
+}
+
+-- the keys of names; a number that is no collation's gives none
+abbrev pub keysUnder : Option Collation → Mapping → List (List ℕ) → List (List ℕ)
+keysUnder none m names = []
+keysUnder (some k) m names = map (keyOf k m) names
+
+-- the keys of the first list's names
+abbrev pub firstKeys : ListsCall → List (List ℕ)
+firstKeys c = keysUnder (c .collation) (mappingOf (c .table)) (namesIn (c .firstList))
+
+-- and of the second's
+abbrev pub secondKeys : ListsCall → List (List ℕ)
+secondKeys c = keysUnder (c .collation) (mappingOf (c .table)) (namesIn (c .secondList))
+
+-- "Keys stand .. one after another"
+abbrev pub joined : List (List ℕ) → List ℕ
+joined ks = each (λ k. k) ks
+
+-- "first list first"
+abbrev pub allKeys : ListsCall → List ℕ
+allKeys c = joined (firstKeys c ++ secondKeys c)
+
+-- ---- refusals
+
+-- a refusal with its place: "place 1 or 2 for the list in 11 to 14"
+abbrev pub placed : ℕ → Option Refusal → Option Refusal
+placed place none = none
+placed place (some x) = some (refusal (x .number) place (x .detail))
+
+-- "14 over 1,024 names"
+abbrev pub countCheck : ℕ → ℕ → Option Refusal
+countCheck place n = check (ltb namesMost n) 14 place 0
+
+-- "order 1, then 11 to 13 on the first list, record by record, and on the second .., 14"
+abbrev pub namesChecks : Option Collation → List ℕ → List ℕ → List (Option Refusal)
+namesChecks k one two =
+    collationCheck k
+    ∷ placed 1 (listFault one)
+    ∷ placed 2 (listFault two)
+    ∷ countCheck 1 (length (namesIn one))
+    ∷ countCheck 2 (length (namesIn two))
+    ∷ []
+
+-- "8 for the store (detail all keys together)"
+abbrev pub storeCheck : ℕ → ℕ → Option Refusal
+storeCheck room needed = check (ltb room needed) 8 0 needed
+
+-- "8 for either array (detail the first list's names)"
+abbrev pub arraysCheck : ℕ → ℕ → ℕ → Option Refusal
+arraysCheck one two names = check (ltb one names || ltb two names) 8 0 names
+
+-- "8 for the store .., then 8 for either array"
+abbrev pub roomsRefusal : ListsCall → Option Refusal
+roomsRefusal c =
+    first
+    (storeCheck (length (c .store)) (length (allKeys c))
+    ∷ arraysCheck (length (c .partners)) (length (c .positions)) (length (namesIn (c .firstList)))
+    ∷ [])
+
+-- the refusal of a call, if there is one: 1, 11 to 14, "the table's 3 to 7", 8
+unfoldable pub listsRefusal : ListsCall → Option Refusal
+listsRefusal c =
+    first
+    (first (namesChecks (c .collation) (c .firstList) (c .secondList))
+    ∷ tableCheck (c .collation) (c .table)
+    ∷ roomsRefusal c
+    ∷ [])
+
+-- ---- the whole call
+
+-- what is told: "names in each list, equal pairs across them, names of the first list with any partner"
+abbrev pub sharedValues : ListsCall → List ℕ
+sharedValues c =
+    length (namesIn (c .firstList))
+    ∷ length (namesIn (c .secondList))
+    ∷ equalPairs (firstKeys c) (secondKeys c)
+    ∷ partnered (firstKeys c) (secondKeys c)
+    ∷ []
+
+-- the same of what the call answers
+abbrev pub sharedOutcome : Shared → Outcome
+sharedOutcome (Found s) = gives (s .«first_names» ∷ s .«second_names» ∷ s .«equal_pairs» ∷ s .partnered ∷ [])
+sharedOutcome (Refused r) = refused r
+
+-- store, partners and positions after a call: "both stay beyond that"; on a refusal all stay
+abbrev pub slicesAfter : Option Refusal → ListsCall → List (List ℕ)
+slicesAfter none c =
+    over (allKeys c) (c .store)
+    ∷ over (map (partnerOf (secondKeys c)) (firstKeys c)) (c .partners)
+    ∷ over (keyPositions (firstKeys c)) (c .positions)
+    ∷ []
+slicesAfter (some r) c = c .store ∷ c .partners ∷ c .positions ∷ []
+
+-- a call was answered: its outcome is the refusal or its values, and the lent slices are those after it. The refusal is the
+-- call's, or what is left of it where some checks were passed.
+pub record Shares (x : Option Refusal) (c : ListsCall) (r : Shared) (after : List (List ℕ)) : Type 0 where
+  pub answered : sharedOutcome r ≡ answer x (sharedValues c)
+  pub left : after ≡ slicesAfter x c
