@@ -40,7 +40,12 @@ use Rattle.records.proofs.write_text.Kinds as write-text-kinds
 use Rattle.records.proofs.write_text.Reads as write-text
 use Rattle.records.proofs.write_key.Kinds as write-key-kinds
 use Rattle.records.proofs.write_key.Reads as write-key
+use Rattle.lists.specs.Lists.{ListsCall, listsCall}
+use Rattle.lists.proofs.find_shared.Kinds as find-shared-kinds
+use Rattle.lists.proofs.find_shared.Reads as find-shared
+use Rattle.lists.proofs.find_shared_accepted.Reads as find-shared-accepted
 use Rattle.demands.specs.Records.{ReadCall}
+use Rattle.demands.specs.Lists.{ShareCall}
 use Rattle.builder.specs.Builder.{built, Added}
 use Rattle.builder.proofs.add_line.Kinds as add-line-kinds
 use Rattle.builder.proofs.add_line.Reads as add-line
@@ -181,3 +186,30 @@ module _ (κs : Lfts 2) (a : Dens κs write-key-kinds.ps) where
       → write-key.Learnt κs a r s
       → Writes (ofKey (a .0) (a .1 .0 .now)) (a .1 .1 .1 .0 .0) (a .1 .1 .0 .now) r (s .1 .1 .0 .now)
   write-key-contract r s h = h
+
+-- ---- lists
+
+-- a call (collation, first, second, entries, pool, store, partners, positions), which both have alike
+abbrev lists : (κs : Lfts 7) → Dens κs find-shared-kinds.ps → ListsCall
+lists κs a =
+    listsCall (collationOf (a .0)) (a .1 .0 .now) (a .1 .1 .0 .now) (a .1 .1 .1 .0 .now) (a .1 .1 .1 .1 .0 .now)
+    (a .1 .1 .1 .1 .1 .0 .now)
+    (a .1 .1 .1 .1 .1 .1 .0 .now)
+    (a .1 .1 .1 .1 .1 .1 .1 .0 .now)
+
+-- `find_shared(collation, first, second, entries, pool, store, partners, positions)`
+module _ (κs : Lfts 7) (a : Dens κs find-shared-kinds.ps) where
+  pub find-shared-asks-nothing : find-shared.Asked κs a
+  find-shared-asks-nothing = tt
+
+  module _ (r : resT find-shared-kinds.r κs .Denot) (s : AtExit (endedOf 7 find-shared-kinds.ps find-shared-kinds.r) κs) where
+    pub find-shared-contract : find-shared.Learnt κs a r s
+        → ShareCall (lists κs a) r
+        (s .1 .1 .1 .1 .1 .0 .now ∷ s .1 .1 .1 .1 .1 .1 .0 .now ∷ s .1 .1 .1 .1 .1 .1 .1 .0 .now ∷ [])
+    find-shared-contract h = h
+
+    -- and its twin
+    pub find-shared-accepted-contract : find-shared-accepted.Learnt κs a r s
+        → ShareCall (lists κs a) r
+        (s .1 .1 .1 .1 .1 .0 .now ∷ s .1 .1 .1 .1 .1 .1 .0 .now ∷ s .1 .1 .1 .1 .1 .1 .1 .0 .now ∷ [])
+    find-shared-accepted-contract h = h

@@ -31,6 +31,11 @@ use Rattle.mz_records.proofs.mz_write_text.Kinds as mz-write-text-kinds
 use Rattle.mz_records.proofs.mz_write_text.Reads as mz-write-text
 use Rattle.mz_records.proofs.mz_write_key.Kinds as mz-write-key-kinds
 use Rattle.mz_records.proofs.mz_write_key.Reads as mz-write-key
+use Rattle.lists.specs.Lists.{ListsCall, listsCall}
+use Rattle.mz_lists.specs.Promises.{SharesRow}
+use Rattle.mz_lists.proofs.mz_find_shared.Kinds as mz-find-shared-kinds
+use Rattle.mz_lists.proofs.mz_find_shared.Reads as mz-find-shared
+use Rattle.mz_lists.proofs.mz_find_shared_accepted.Reads as mz-find-shared-accepted
 use Rattle.mz_texts.specs.Promises.{RowAnswered}
 use Rattle.mz_texts.proofs.one_text.mz_prepare.Kinds as mz-prepare-kinds
 use Rattle.mz_texts.proofs.one_text.mz_prepare.Reads as mz-prepare
@@ -162,3 +167,31 @@ module _ (κs : Lfts 3) (a : Dens κs mz-write-key-kinds.ps) where
       → WritesRow (ofKey (fieldsOf (a .0) (a .1 .0) (a .1 .1 .0)) (a .1 .1 .1 .0 .now)) (a .1 .1 .1 .1 .1 .0)
       (a .1 .1 .1 .1 .0 .now) (s .1 .1 .1 .1 .1 .1 .0 .now) (s .1 .1 .1 .1 .0 .now)
   mz-write-key-contract r s h = h
+
+-- ---- lists
+
+-- a call (collation, first, second, entries, pool, store, partners, positions, answer), which both have alike
+abbrev lists : (κs : Lfts 8) → Dens κs mz-find-shared-kinds.ps → ListsCall
+lists κs a =
+    listsCall (collationOf (a .0)) (a .1 .0 .now) (a .1 .1 .0 .now) (a .1 .1 .1 .0 .now) (a .1 .1 .1 .1 .0 .now)
+    (a .1 .1 .1 .1 .1 .0 .now)
+    (a .1 .1 .1 .1 .1 .1 .0 .now)
+    (a .1 .1 .1 .1 .1 .1 .1 .0 .now)
+
+-- `mz_find_shared(collation, first, second, entries, pool, store, partners, positions, answer)`
+module _ (κs : Lfts 8) (a : Dens κs mz-find-shared-kinds.ps) where
+  pub mz-find-shared-asks-nothing : mz-find-shared.Asked κs a
+  mz-find-shared-asks-nothing = tt
+
+  module _ (r : resT mz-find-shared-kinds.r κs .Denot) (s : AtExit
+      (endedOf 8 mz-find-shared-kinds.ps mz-find-shared-kinds.r) κs) where
+    pub mz-find-shared-contract : mz-find-shared.Learnt κs a r s
+        → SharesRow (lists κs a) (s .1 .1 .1 .1 .1 .1 .1 .1 .0 .now)
+        (s .1 .1 .1 .1 .1 .0 .now ∷ s .1 .1 .1 .1 .1 .1 .0 .now ∷ s .1 .1 .1 .1 .1 .1 .1 .0 .now ∷ [])
+    mz-find-shared-contract h = h
+
+    -- and its twin
+    pub mz-find-shared-accepted-contract : mz-find-shared-accepted.Learnt κs a r s
+        → SharesRow (lists κs a) (s .1 .1 .1 .1 .1 .1 .1 .1 .0 .now)
+        (s .1 .1 .1 .1 .1 .0 .now ∷ s .1 .1 .1 .1 .1 .1 .0 .now ∷ s .1 .1 .1 .1 .1 .1 .1 .0 .now ∷ [])
+    mz-find-shared-accepted-contract h = h

@@ -4,6 +4,8 @@ pub mod Storing
 pub mod TableFaults
 pub mod KeyFaults
 pub mod LineFaults
+pub mod ListCalls
+pub mod ListFaults
 pub mod Rows
 pub mod Numbers
 pub mod Ordering
@@ -22,4 +24,6 @@ pub mod Document01
 pub mod Request01
 pub mod Request02
 pub mod Request02Refusals
+pub mod Request03
+pub mod Request03Refusals
 pub mod ContractsC

@@ -1,4 +1,5 @@
 pub mod Demands
 pub mod Faults
+pub mod Lists
 pub mod Records
 pub mod Widest
