@@ -4,7 +4,7 @@
 CRATE ?=
 export CRATE
 # the crates of the C interface, each an archive of its own that the library joins
-EXPORTS := mz_tables mz_texts mz_records
+EXPORTS := mz_tables mz_texts mz_records mz_lists
 CRATES := sed -n 's/^\([a-z0-9_]*\):.*/\1/p' crates.txt
 
 help: ## print these lines
@@ -33,7 +33,7 @@ check: ## with CRATE=name: prove that crate and those that it needs
 test: ## prove every crate, try every must-fail edit, run every program and test; ends with `N passed, 0 failed`
 	@bash tests/run.sh
 
-bench: lib ## names, records and the search beside other programs, in one run
+bench: lib ## names, records, lists and the search beside other programs, in one run
 	@mkdir -p build/bench
 	@rt staticlib bench_find > build/bench/bench_find.log 2>&1 || { tail -n 20 build/bench/bench_find.log; exit 1; }
 	@bash bench/build.sh
@@ -42,6 +42,8 @@ bench: lib ## names, records and the search beside other programs, in one run
 	@./build/bench/names
 	@echo
 	@./build/bench/records
+	@echo
+	@./build/bench/lists
 
 clean: ## remove all that the others make: target, build, and the cargo folders
 	@rm -rf target build bindings/rust/target tests/*/target bench/*/target

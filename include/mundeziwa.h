@@ -8,8 +8,8 @@
  *
  * SLICES. A slice is a pointer and the number of its ELEMENTS (octets of a text, 32-bit numbers of a table). Where the number
  * is 0 the pointer may be anything that is aligned, but not NULL. Slices that are written (key buffers; entries and pool of
- * mz_add_line; the records of mz_write_text and mz_write_key; the answer) must overlap no other argument; those that are only
- * read may overlap each other.
+ * mz_add_line; the records of mz_write_text and mz_write_key; store, partners and positions of mz_find_shared; the answer) must
+ * overlap no other argument; those that are only read may overlap each other.
  *
  * TABLE. entries holds MZ_ENTRY_WIDTH numbers for each entry: code point, titlecase (the code point itself if none), start of its
  * decomposition in the pool, number of code points there. Entries ascend by code point; a start is the sum of all earlier counts.
@@ -22,7 +22,8 @@
  * text's length in octets is always long enough, and the call is then quickest.
  *
  * ANSWERS. Each call writes the whole of its answer row. answer[0] is the refusal number, 0 if the call was not refused;
- * answer[1] the place: 1 or 2, which text (a lone text is 1), 0 neither; answer[2] the detail, which the refusals below name.
+ * answer[1] the place: 1 or 2, which text or list (a lone text is 1), 0 neither; answer[2] the detail, which the refusals below
+ * name.
  * On a refusal no other lent buffer changes, and all later fields of the row are 0 (but see mz_add_line). The checks run in the
  * order of the refusals below, and the first that applies is answered. A text is never refused for its content, and no call
  * fails in any other way.
@@ -53,6 +54,7 @@ extern "C" {
 #define MZ_POOL_MOST 65536        /* numbers of a pool */
 #define MZ_LINE_MOST 512          /* octets of a line of UnicodeData.txt */
 #define MZ_KEY_PER_OCTET_MOST 128 /* octets of a key for each octet of its text */
+#define MZ_NAMES_MOST 1024        /* names of a list */
 
 /* Kinds of record. */
 #define MZ_KIND_TEXT 1 /* a text */
@@ -85,9 +87,16 @@ extern "C" {
 /* Refusals of calls on records; place is 0. Reading has 11, 12 and 13, writing 13 and 8, each in this order. The detail is for
  * 8 the length of the whole record, else 0. */
 #define MZ_REFUSED_RECORD_LENGTH 11 /* fewer octets left than four or than the length says, or a length below 2 */
-#define MZ_REFUSED_RECORD_KIND 12   /* the kind is unknown */
+#define MZ_REFUSED_RECORD_KIND 12   /* the kind is unknown, or in a list no text's */
 #define MZ_REFUSED_RECORD_BODY 13   /* an item that no record may hold: see RECORDS below */
 #define MZ_REFUSED_RECORD_ROOM 8    /* no room for the whole record (the number is also that of MZ_REFUSED_KEY_ROOM) */
+
+/* Refusals of a call on lists, in their order: 1; 11, 12, 13 of the first list's records, one after another, and of the second's,
+ * where a record that is no text is refused with 12 whatever its body; 14; 3 to 7 as above; 8 for the store, 8 for the arrays.
+ * The place is which list for 11 to 14, else 0. The detail is for 8 of the store the length of all keys together, for 8 of an
+ * array the number of the first list's names, for 3 to 7 as above, else 0. */
+#define MZ_REFUSED_NAME_COUNT 14 /* a list has over MZ_NAMES_MOST names */
+#define MZ_REFUSED_LIST_ROOM 8   /* the store, or one of the arrays, is too short (the number is also those of the other rooms) */
 
 /* The number of the interface that the library has: MZ_INTERFACE of the header that it was built with. */
 uint32_t mz_interface(void);
@@ -187,6 +196,28 @@ void mz_write_key(uint32_t collation, uint64_t valid, uint64_t text_length,
                   const uint8_t *key, size_t key_length,
                   uint8_t *records, size_t records_length, uint64_t position,
                   uint64_t answer[4]);
+
+/* LISTS. A list is a slice of records, each of them a text (MZ_KIND_TEXT), from its start to its end: its names, in their order.
+ * An empty slice is a list of no names. Names are counted from 1. Two names are equal where their keys are; a partner of a name of
+ * the first list is a name of the second that is equal to it. The calls on lists keep some 32 KiB on the caller's stack. */
+
+/* Says which names two lists share. Leaves three things: at the start of store the keys of all names, one after another with
+ * nothing between them, the first list's and then the second's, also those that are the text itself; in partners, for each name
+ * of the first list in its turn, the lowest number of a name of the second list that is equal to it, 0 if there is none; in
+ * positions the numbers of the first list's names in the order of their keys, equal ones in the order of their numbers. All
+ * three stay as they were after that. Partners and positions need one element for each name of the first list. A store of
+ * MZ_KEY_PER_OCTET_MOST times the octets of all names is always long enough, and the call is then quickest.
+ * answer: number, place, detail; names in the first list; names in the second; equal pairs across the lists (equal names within
+ * a list count separately); names of the first list that have any partner. Refusals 1, 11 to 14, 3 to 7, 8. */
+void mz_find_shared(uint32_t collation,
+                    const uint8_t *first, size_t first_length,
+                    const uint8_t *second, size_t second_length,
+                    const uint32_t *entries, size_t entries_length,
+                    const uint32_t *pool, size_t pool_length,
+                    uint8_t *store, size_t store_length,
+                    uint32_t *partners, size_t partners_length,
+                    uint32_t *positions, size_t positions_length,
+                    uint64_t answer[7]);
 
 #ifdef __cplusplus
 }

@@ -30,6 +30,26 @@ pub type Comparing<const N: usize> = unsafe extern "C" fn(
     *mut [u64; N],
 );
 
+/// A call on two lists: collation; first, second; entries, pool; store, partners, positions; answer.
+pub type Sharing = unsafe extern "C" fn(
+    u32,
+    *const u8,
+    usize,
+    *const u8,
+    usize,
+    *const u32,
+    usize,
+    *const u32,
+    usize,
+    *mut u8,
+    usize,
+    *mut u32,
+    usize,
+    *mut u32,
+    usize,
+    *mut [u64; 7],
+);
+
 extern "C" {
     pub fn mz_interface() -> u32;
 
@@ -122,9 +142,36 @@ macro_rules! comparing {
     };
 }
 
+/// Declares calls on two lists.
+macro_rules! sharing {
+    ($($name:ident),*) => {
+        extern "C" {
+            $(pub fn $name(
+                collation: u32,
+                first: *const u8,
+                first_length: usize,
+                second: *const u8,
+                second_length: usize,
+                entries: *const u32,
+                entries_length: usize,
+                pool: *const u32,
+                pool_length: usize,
+                store: *mut u8,
+                store_length: usize,
+                partners: *mut u32,
+                partners_length: usize,
+                positions: *mut u32,
+                positions_length: usize,
+                answer: *mut [u64; 7],
+            );)*
+        }
+    };
+}
+
 preparing!(mz_prepare, mz_prepare_accepted);
 comparing!(4: mz_equal, mz_equal_accepted, mz_order, mz_order_accepted);
 comparing!(8: mz_substring, mz_substring_accepted);
+sharing!(mz_find_shared, mz_find_shared_accepted);
 
 /// Stops the program if the linked library has another interface: the same names may then take other parameters.
 pub fn check_interface() {

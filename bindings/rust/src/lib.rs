@@ -16,16 +16,32 @@
 //! any origin take the whole published file. A text that is not valid UTF-8 is its own key. [`RefusalKind`] has what is
 //! refused; docs/SCOPE.md of the repository, "document 01", has every rule.
 //!
-//! A join:
+//! Which names two lists share, of at most 1,024 names each:
 //!
 //! ```
-//! use mundeziwa::{Collation, Refusal, TableBuilder};
-//! use std::collections::HashMap;
+//! use mundeziwa::{Collation, TableBuilder};
 //!
 //! let lines = "0065;LATIN SMALL LETTER E;Ll;0;L;;;;;N;;;0045;;0045\n\
 //!     00C9;LATIN CAPITAL LETTER E WITH ACUTE;Lu;0;L;0045 0301;;;;N;;;;00E9;\n\
 //!     00E9;LATIN SMALL LETTER E WITH ACUTE;Ll;0;L;0065 0301;;;;N;;;00C9;;00C9\n";
 //! let table = TableBuilder::read(lines.as_bytes())?.table()?;
+//!
+//! let (held_back, fitted) = (["F", "e\u{301}"], ["\u{c9}", "E"]);
+//! let shared = table.shared(Collation::UnicodeCasemap, held_back, fitted)?;
+//! assert!(shared.matches().eq([(1, 0)]));
+//! # Ok::<(), Box<dyn std::error::Error>>(())
+//! ```
+//!
+//! A join of any number of names, by their keys:
+//!
+//! ```
+//! use mundeziwa::{Collation, Refusal, TableBuilder};
+//! use std::collections::HashMap;
+//!
+//! # let lines = "0065;LATIN SMALL LETTER E;Ll;0;L;;;;;N;;;0045;;0045\n\
+//! #     00C9;LATIN CAPITAL LETTER E WITH ACUTE;Lu;0;L;0045 0301;;;;N;;;;00E9;\n\
+//! #     00E9;LATIN SMALL LETTER E WITH ACUTE;Ll;0;L;0065 0301;;;;N;;;00C9;;00C9\n";
+//! # let table = TableBuilder::read(lines.as_bytes())?.table()?;
 //! let key = |name: &&str| table.key(Collation::UnicodeCasemap, name);
 //!
 //! let mut fitted = HashMap::new();
@@ -71,6 +87,7 @@
 mod builder;
 mod ffi;
 mod keys;
+mod lists;
 mod reading;
 pub mod records;
 mod refusal;
@@ -78,6 +95,7 @@ mod refusal_kind;
 mod table;
 
 pub use builder::TableBuilder;
+pub use lists::{ListError, Shared};
 pub use reading::ReadError;
 pub use refusal::Refusal;
 pub use refusal_kind::RefusalKind;
@@ -106,6 +124,9 @@ pub enum Collation {
 
 /// The longest text that is taken, in octets.
 pub const TEXT_MOST: usize = 4096;
+
+/// The most names that a list is taken with.
+pub const NAMES_MOST: usize = 1024;
 
 /// The most octets of a key for each octet of its text.
 pub const KEY_PER_OCTET_MOST: usize = 128;

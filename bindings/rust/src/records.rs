@@ -29,6 +29,7 @@ mod error;
 mod reading;
 mod writing;
 
+pub(crate) use error::reading_reason;
 pub use error::RecordError;
 pub use reading::Records;
 pub use writing::{write_key, write_text};

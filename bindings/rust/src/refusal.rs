@@ -2,7 +2,7 @@
 use crate::RefusalKind;
 use std::fmt;
 
-/// Why a call was refused: what was wrong, which text it speaks of, and a detail. Both `{}` and `{:?}` print the sentence.
+/// Why a call was refused: what was wrong, which text or list it speaks of, and a detail. Both `{}` and `{:?}` print the sentence.
 ///
 /// ```
 /// use mundeziwa::Table;
@@ -37,6 +37,11 @@ impl Refusal {
         Refusal::of(row).map_err(|refusal| Refusal { lone: true, ..refusal })
     }
 
+    /// The same refusal, of a list: 1 or 2.
+    pub(crate) fn of_list(self, place: u64) -> Refusal {
+        Refusal { place, ..self }
+    }
+
     /// What was wrong.
     ///
     /// ```
@@ -69,7 +74,7 @@ impl Refusal {
         self.kind.name()
     }
 
-    /// Which text the refusal speaks of: 1 or 2 (a lone text is 1), 0 if of neither.
+    /// Which text or list the refusal speaks of: 1 or 2 (a lone text is 1), 0 if of neither.
     ///
     /// ```
     /// use mundeziwa::{Collation, Table};
@@ -100,6 +105,25 @@ impl Refusal {
             _ => "the first text",
         }
     }
+
+    /// Which list the refusal speaks of, in words.
+    pub(crate) fn list(&self) -> &'static str {
+        if self.place == 2 {
+            "second list"
+        } else {
+            "first list"
+        }
+    }
+
+    /// What is wrong with that list.
+    fn list_fault(&self) -> &'static str {
+        match self.kind {
+            RefusalKind::RecordLength => "ends within a record, or has a record whose length is below 2",
+            RefusalKind::RecordKind => "has a record that is no text",
+            RefusalKind::RecordBody => "has a name of over 4096 octets",
+            _ => "has more than 1024 names",
+        }
+    }
 }
 
 /// What a field that should write a code point does not.
@@ -125,6 +149,8 @@ impl fmt::Display for Refusal {
             NoLevel => write!(f, "entry {detail} does not unfold within 8 levels into at most 32 code points"),
             KeyRoom => write!(f, "the key of {} needs a buffer of {detail} octets", self.text()),
             NoTab => write!(f, "the line has no tab"),
+            NameCount => write!(f, "the {} {}", self.list(), self.list_fault()),
+            RecordLength | RecordKind | RecordBody if self.place > 0 => write!(f, "the {} {}", self.list(), self.list_fault()),
             RecordLength => write!(f, "fewer octets are left than the record's length takes or says, or that length is below 2"),
             RecordKind => write!(f, "the record's kind is not 1 or 2"),
             RecordBody => {

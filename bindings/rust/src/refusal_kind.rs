@@ -81,17 +81,20 @@ refusal_kinds! {
     PoolNumber = 6, "pool number";
     /// A code point does not unfold within 8 levels into at most 32 code points.
     NoLevel = 7, "no level";
-    /// A key is longer than the buffer lent for it. The C interface also answers it where a record has no room; the writers of
-    /// [`records`](crate::records) make room.
+    /// A key is longer than the buffer lent for it. The C interface also answers it where a record has no room, and where the
+    /// store or an array of a call on lists is too short; the writers of [`records`](crate::records) and
+    /// [`Table::shared`](crate::Table::shared) make room.
     KeyRoom = 8, "buffer too short";
     /// A line without a tab: the program `pairs` alone answers it.
     NoTab = 9, "no tab";
     /// Fewer octets are left than a record's length takes or says, or that length is below 2.
     RecordLength = 11, "record length";
-    /// The kind of a record is unknown.
+    /// The kind of a record is unknown or, in a list, not that of a text.
     RecordKind = 12, "record kind";
     /// A text or a text's length over 4,096 octets, or a key whose collation, flag or lengths no record has.
     RecordBody = 13, "record body";
+    /// A list has over 1,024 names.
+    NameCount = 14, "name count";
     /// A data line is over 512 octets.
     LineTooLong = 20, "line too long";
     /// A data line has not exactly 14 semicolons.

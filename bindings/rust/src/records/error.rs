@@ -67,7 +67,7 @@ impl RecordError {
 }
 
 /// Why a record can't be read. The library has decided that it can't; the octets are looked at again for the words alone.
-fn reading_reason(octets: &[u8], position: usize) -> String {
+pub(crate) fn reading_reason(octets: &[u8], position: usize) -> String {
     let Some(left) = octets.get(position..) else {
         return format!("the slice ends at octet {}", octets.len());
     };

@@ -1,6 +1,7 @@
 //! What holds of every text and every table, tried on random ones through the safe crate.
 //!
 //! MZ_SEED and MZ_CASES set the run; a failure names the seed of its case, and MZ_SEED=that MZ_CASES=1 makes that case again.
+mod lists;
 mod records;
 mod tables;
 mod texts;
