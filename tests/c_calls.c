@@ -1,5 +1,5 @@
-/* The C interface as a C program sees it: every call of both headers, over table T of document 01, and on records by document 02.
- * Exits 1 at the first answer that is not the documents'. */
+/* The C interface as a C program sees it: every call of both headers, over table T of document 01, and on records and lists by
+ * document 02. Exits 1 at the first answer that is not the documents'. */
 #include "mundeziwa.h"
 #include "mundeziwa_accepted.h"
 #include <stdio.h>
@@ -146,6 +146,58 @@ static void read_records(void) {
     EXPECT("mz_read_record of a key of another length under i;octet", answer, MZ_REFUSED_RECORD_BODY, 0, 0, 0, 0, 0, 0, 0, 0);
 }
 
+/* Three names, of which the first and the third are equal, and two others. */
+#define FIRST_LIST "\x03\0\0\0\x01\0z" TEXT_RECORD "\x03\0\0\0\x01\0Z"
+#define SECOND_LIST "\x03\0\0\0\x01\0b" "\x03\0\0\0\x01\0z"
+
+static void expect_numbers(const char *what, const uint32_t *numbers, const uint32_t *expected, size_t n) {
+    expect_octets(what, (const uint8_t *)numbers, (const char *)expected, n * sizeof *numbers);
+}
+
+static void find_shared_names(void) {
+    uint8_t store[8] = {0, 0, 0, 0, 0, 0, 0, 9};
+    uint32_t partners[4] = {9, 9, 9, 9}, positions[4] = {9, 9, 9, 9};
+    uint64_t answer[7];
+#define REPORT store, sizeof store, partners, COUNT(partners), positions, COUNT(positions)
+    mz_find_shared(MZ_UNICODE_CASEMAP, TEXT(FIRST_LIST), TEXT(SECOND_LIST), TABLE, REPORT, answer);
+    EXPECT("mz_find_shared", answer, 0, 0, 0, 3, 2, 2, 2);
+    expect_octets("mz_find_shared's store", store, "Z\x45\xCC\x81ZbZ\x09", sizeof store);
+    expect_numbers("mz_find_shared's partners", partners, (const uint32_t[]){2, 0, 2, 9}, COUNT(partners));
+    expect_numbers("mz_find_shared's positions", positions, (const uint32_t[]){2, 1, 3, 9}, COUNT(positions));
+
+    mz_find_shared_accepted(MZ_OCTET, TEXT(FIRST_LIST), TEXT(SECOND_LIST), TABLE, REPORT, answer);
+    EXPECT("mz_find_shared_accepted under i;octet", answer, 0, 0, 0, 3, 2, 1, 1);
+    expect_octets("mz_find_shared_accepted's store", store, "z\xC3\xA9Zbz\x5A\x09", sizeof store);
+    expect_numbers("mz_find_shared_accepted's partners", partners, (const uint32_t[]){2, 0, 0, 9}, COUNT(partners));
+    expect_numbers("mz_find_shared_accepted's positions", positions, (const uint32_t[]){3, 1, 2, 9}, COUNT(positions));
+}
+
+static void refuse_lists(void) {
+    uint8_t store[7] = {9, 9, 9, 9, 9, 9, 9};
+    uint32_t partners[3] = {9, 9, 9}, positions[3] = {9, 9, 9};
+    uint64_t answer[7];
+    static uint8_t names[6 * (MZ_NAMES_MOST + 1)];
+    for (size_t at = 0; at < sizeof names; at += 6)
+        memcpy(names + at, "\x02\0\0\0\x01\0", 6);
+    mz_find_shared(4, TEXT("\x03"), TEXT(""), TABLE, REPORT, answer);
+    EXPECT("mz_find_shared under collation 4", answer, MZ_REFUSED_COLLATION, 0, 0, 0, 0, 0, 0);
+    mz_find_shared(MZ_UNICODE_CASEMAP, TEXT(FIRST_LIST), TEXT(SECOND_LIST "\x03"), TABLE, REPORT, answer);
+    EXPECT("mz_find_shared of a cut list", answer, MZ_REFUSED_RECORD_LENGTH, 2, 0, 0, 0, 0, 0);
+    mz_find_shared(MZ_OCTET, TEXT(FIRST_LIST KEY_RECORD), TEXT(SECOND_LIST), TABLE, REPORT, answer);
+    EXPECT("mz_find_shared of a key", answer, MZ_REFUSED_RECORD_KIND, 1, 0, 0, 0, 0, 0);
+    mz_find_shared(MZ_OCTET, TEXT(FIRST_LIST), names, sizeof names, TABLE, REPORT, answer);
+    EXPECT("mz_find_shared of too many names", answer, MZ_REFUSED_NAME_COUNT, 2, 0, 0, 0, 0, 0);
+    mz_find_shared(MZ_UNICODE_CASEMAP, TEXT(""), TEXT(""), entries, 3, pool, 0, REPORT, answer);
+    EXPECT("mz_find_shared over a faulty table", answer, MZ_REFUSED_TABLE_SIZE, 0, 0, 0, 0, 0, 0);
+    mz_find_shared(MZ_UNICODE_CASEMAP, TEXT(FIRST_LIST), TEXT(SECOND_LIST), TABLE, store, 6, partners, 2, positions, 3, answer);
+    EXPECT("mz_find_shared with a short store", answer, MZ_REFUSED_LIST_ROOM, 0, 7, 0, 0, 0, 0);
+    mz_find_shared(MZ_UNICODE_CASEMAP, TEXT(FIRST_LIST), TEXT(SECOND_LIST), TABLE, store, 7, partners, 3, positions, 2, answer);
+    EXPECT("mz_find_shared with a short array", answer, MZ_REFUSED_LIST_ROOM, 0, 3, 0, 0, 0, 0);
+    expect_octets("the store after refusals", store, "\x09\x09\x09\x09\x09\x09\x09", sizeof store);
+    expect_numbers("partners after refusals", partners, (const uint32_t[]){9, 9, 9}, COUNT(partners));
+    expect_numbers("positions after refusals", positions, (const uint32_t[]){9, 9, 9}, COUNT(positions));
+}
+
 int main(void) {
     check_interface();
     check_tables();
@@ -154,6 +206,8 @@ int main(void) {
     build_table();
     write_records();
     read_records();
+    find_shared_names();
+    refuse_lists();
     puts("the C interface answers as the documents say");
     return 0;
 }

@@ -23,7 +23,10 @@ readonly WRONG=(order/READS_AFTER_TEXT order/READS_BEFORE_TEXT order/READS_AFTER
     read_record/READS_AFTER_RECORDS read_record/ANSWERS_ON_REFUSAL read_record/STARTS_AT_THE_COLLATION
     read_record/TAKES_A_CUT_RECORD read_record/TAKES_FLAG_0_UNDER_1
     write_text/ANSWERS_WITHOUT_THE_LENGTH write_text/WRITES_AFTER_THE_RECORD
-    write_key/WRITES_ON_REFUSAL write_key/COLLATION_OF_ONE_OCTET write_key/ROOM_BEFORE_BODY)
+    write_key/WRITES_ON_REFUSAL write_key/COLLATION_OF_ONE_OCTET write_key/ROOM_BEFORE_BODY
+    find_shared/READS_AFTER_SECOND_LIST find_shared/READS_AFTER_POSITIONS find_shared/WRITES_ON_REFUSAL
+    find_shared/WRITES_AFTER_PARTNERS find_shared/PARTNERS_FROM_0 find_shared/TIES_REVERSED find_shared/PAIRS_ARE_NAMES
+    find_shared/EMPTY_LISTS_SKIP_TABLE find_shared/PLACE_OF_THE_OTHER_LIST)
 # The sanitizer finds no place for its memory under some kernels' randomised addresses; without them it always does.
 STEADY=()
 if setarch --addr-no-randomize true 2> /dev/null; then

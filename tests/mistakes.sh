@@ -5,7 +5,8 @@
 # Needs what tests/second.sh needs; the comparison is run with fewer cases (MZ_SHORT, MZ_CASES). Prints `NAME found by PART` for
 # each mistake. One that isn't found, doesn't fit the second program, doesn't build, or stops the comparison in another way than
 # by a difference (exit status 1) is a failure. Each part must find one by itself. MZ_JOBS is how many are tried at once, each
-# job on a copy and in a build directory of its own. With a name as argument: that mistake alone.
+# job on a copy and in a build directory of its own. With a name as argument: that mistake alone; with a part after it: by that
+# part.
 set -euo pipefail
 cd "$(dirname "$0")/.."
 
@@ -16,6 +17,9 @@ readonly COPY="$WORK/copy"
 export CARGO_TARGET_DIR="$WORK/target"
 readonly COMPARE="$CARGO_TARGET_DIR/mistakes/compare"
 export MZ_SHORT=yes MZ_CASES="${MZ_CASES:-5000}"
+# The interpreter itself, found once: a shim before it takes longer than an edit.
+MZ_PYTHON="${MZ_PYTHON:-$(python3 -c 'import sys; print(sys.executable)')}"
+export MZ_PYTHON
 # An edit may leave something unused behind; a warning of that says nothing.
 export RUSTFLAGS=-Awarnings
 
@@ -42,7 +46,7 @@ build() {
 try() {
     local output status=0
     copy
-    python3 tests/edit.py "tests/mistakes/$1.edit" "$COPY/tests/second" || { echo "$1 DOESN'T FIT"; return 1; }
+    "$MZ_PYTHON" -I -S tests/edit.py "tests/mistakes/$1.edit" "$COPY/tests/second" || { echo "$1 DOESN'T FIT"; return 1; }
     build || { echo "$1 DOESN'T BUILD"; return 1; }
     output=$("$COMPARE") || status=$?
     case $status in
@@ -59,7 +63,13 @@ must_be_error() {
     [ "$status" -eq 2 ] || fail "$* gives exit status $status, not 2"
 }
 
+# try_each N: tries mistakes, each of N arguments on standard input, so many at once.
+try_each() {
+    xargs -n "$1" -P "${MZ_JOBS:-2}" --process-slot-var=JOB bash tests/mistakes.sh
+}
+
 if [ $# -gt 0 ]; then
+    [ $# -lt 2 ] || export MZ_PARTS=$2
     try "$1"
     exit
 fi
@@ -87,21 +97,20 @@ for edit in tests/mistakes/*.edit; do
     names+=("$(basename "$edit" .edit)")
 done
 [ -f "tests/mistakes/${names[0]}.edit" ] || fail "tests/mistakes has no edit"
-printf '%s\n' "${names[@]}" | xargs -n 1 -P "${MZ_JOBS:-2}" --process-slot-var=JOB bash tests/mistakes.sh \
-    || fail "not all of ${#names[@]} were found"
+printf '%s\n' "${names[@]}" | try_each 1 || fail "not all of ${#names[@]} were found"
 echo "${#names[@]} mistakes, all found"
 
 # Part 1 comes first and finds them; each of the others finds these by itself too, so that none only seems to look.
-while read -r part name; do
-    MZ_PARTS=$part bash tests/mistakes.sh "$name" || fail "part $part doesn't find $name by itself"
-done << 'END'
-2 mistake_titlecase_0_if_none
-2 mistake_field_12_ignored
-3 mistake_overlong_accepted
-4 mistake_last_occurrence
-4 mistake_field_12_ignored
-5 mistake_marks_sorted
-5 mistake_29_after_24
-6 mistake_record_129_times_taken
-6 mistake_record_8_writes_what_fits
+try_each 2 << 'END' || fail "a part doesn't find by itself what it should"
+mistake_titlecase_0_if_none 2
+mistake_field_12_ignored 2
+mistake_overlong_accepted 3
+mistake_last_occurrence 4
+mistake_field_12_ignored 4
+mistake_marks_sorted 5
+mistake_29_after_24 5
+mistake_record_129_times_taken 6
+mistake_record_8_writes_what_fits 6
+mistake_list_last_partner 7
+mistake_list_1025_names_taken 7
 END

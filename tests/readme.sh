@@ -47,6 +47,7 @@ same 'the C program prints something else' "$said" "$printed"
 } > "$OUT/Cargo.toml"
 block 'From Rust' rust > "$OUT/src/main.rs"
 block 'Records in files' rust > "$OUT/src/bin/records.rs"
+block 'Which names two lists share' rust > "$OUT/src/bin/lists.rs"
 printed=$(run_rust example)
 same 'the Rust program prints something else' "$said" "$printed"
 
@@ -60,6 +61,9 @@ same 'the file of records has other octets' "$(sed -n 's/^[0-9a-f]*: //p' <<< "$
 if command -v xxd > /dev/null; then
     same 'xxd prints something else' "$(tail -n +2 <<< "$shown")" "$(xxd -g 1 build/names.records)"
 fi
+
+printed=$(run_rust lists)
+same 'the program on lists prints something else' "$(block 'Which names two lists share' text)" "$printed"
 
 [ -x target/bin/pairs ] || fail 'target/bin/pairs is not there: make pairs'
 # README.md adds the names after two spaces

@@ -39,6 +39,7 @@ int LLVMFuzzerInitialize(int *argc, char ***argv) {
     (void)argc;
     (void)argv;
     EXPECT(mz_interface() == MZ_INTERFACE);
+    fill_pattern();
     return 0;
 }
 
@@ -47,6 +48,8 @@ int LLVMFuzzerTestOneInput(const uint8_t *data, size_t size) {
         return 0;
     if (data[0] % 8 == 5)
         fuzz_records(data + 1, size - 1);
+    else if (data[0] % 8 == 6)
+        fuzz_lists(data + 1, size - 1);
     else if (data[0] % 4 == 0)
         fuzz_lines(data + 1, size - 1);
     else

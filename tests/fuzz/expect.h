@@ -34,4 +34,6 @@ void fuzz_lines(const uint8_t *data, size_t size);
 
 void fuzz_records(const uint8_t *data, size_t size);
 
+void fuzz_lists(const uint8_t *data, size_t size);
+
 #endif

@@ -17,22 +17,20 @@ static uint32_t take_wide(struct input *input, int octets) {
     return number;
 }
 
-static size_t take_octets(struct input *input, uint8_t *to, size_t most) {
-    size_t length = most < input->left ? most : input->left;
-    if (length > 0)
-        memcpy(to, input->at, length);
-    input->at += length;
-    input->left -= length;
-    return length;
+void take_octets(struct input *input, size_t length, struct text *text) {
+    text->length = length < input->left ? length : input->left;
+    if (text->length > 0)
+        memcpy(text->octets, input->at, text->length);
+    input->at += text->length;
+    input->left -= text->length;
 }
 
 void take_text(struct input *input, struct text *text) {
     uint8_t length = take_octet(input);
-    if (length < 0xF0) {
-        text->length = take_octets(input, text->octets, length);
+    take_octets(input, length < 0xF0 ? length : 8, text);
+    if (length < 0xF0)
         return;
-    }
-    size_t period = take_octets(input, text->octets, 8);
+    size_t period = text->length;
     if (period == 0)
         text->octets[period++] = 'a';
     text->length = 4088 + (length - 0xF0);

@@ -1,7 +1,7 @@
 /* What the fuzzer gives, cut into the arguments of calls.
  *
- * Octet 0 says what the rest is: 0 modulo 4 lines of UnicodeData.txt (lines.c), 5 modulo 8 records (records.c), else texts over
- * a table (texts.c). Whatever the octets are, they are some case; what is left out at the end counts as 0.
+ * Octet 0 says what the rest is: 0 modulo 4 lines of UnicodeData.txt (lines.c), 5 modulo 8 records (records.c), 6 modulo 8 two
+ * lists over a table (lists.c), else texts over a table (texts.c). Whatever the octets are, they are some case; what is left out at the end counts as 0.
  *
  * NUMBERS of a table are one octet each: below 80 hex the number itself; 80 to BF the marks 0300 to 033F; C0 to EF the code point of an
  * entry (C0 the first); F0 and two octets; F1 and four octets; F2 to FF numbers at which some rule changes.
@@ -11,6 +11,9 @@
  * RECORDS are a position; how many octets (a) follow those of the input in the slice; collation, flag, text length and key
  * length of a key to write, whose octets are the first ones of the slice; and the octets of the slice. Numbers are one octet
  * each: below F0 hex the number itself, else one at which some rule changes (records.c).
+ *
+ * LISTS are a collation, a table, the lengths of the store and of both arrays, and the records of both lists. Texts that were
+ * taken before can be taken again, so that names are equal (lists.c).
  *
  * Of the stored inputs (corpus), those with a name were written by hand; each found_NN, which libFuzzer found, raises some counter that no
  * other input does. */
@@ -42,6 +45,9 @@ struct table {
 };
 
 uint8_t take_octet(struct input *input);
+
+/* A text of so many octets, or of those that are left. */
+void take_octets(struct input *input, size_t length, struct text *text);
 
 void take_text(struct input *input, struct text *text);
 

@@ -9,6 +9,13 @@
 /* A multiple of every machine's page size. */
 #define SHUT ((size_t)1 << 16)
 
+uint8_t pattern[LENT_MOST];
+
+void fill_pattern(void) {
+    for (size_t at = 0; at < LENT_MOST; at++)
+        pattern[at] = (uint8_t)(0xF8 | at % 7);
+}
+
 static uint8_t *map_slot(void) {
     uint8_t *whole = mmap(NULL, LENT_MOST + 2 * SHUT, PROT_NONE, MAP_PRIVATE | MAP_ANONYMOUS, -1, 0);
     if (whole == MAP_FAILED || mprotect(whole + SHUT, LENT_MOST, PROT_READ | PROT_WRITE) != 0) {

@@ -14,10 +14,15 @@ enum memory {
 };
 
 /* Each argument of a call has pages of its own. */
-enum slot { FIRST, SECOND, ENTRIES, POOL, FIRST_KEY, SECOND_KEY, RECORDS, ANSWER, SLOTS };
+enum slot { FIRST, SECOND, ENTRIES, POOL, FIRST_KEY, SECOND_KEY, RECORDS, STORE, PARTNERS, POSITIONS, ANSWER, SLOTS };
 
 /* The most octets that a slice may have. */
 #define LENT_MOST ((size_t)1 << 20)
+
+/* What stands in a slice before a call that writes it: octets that no UTF-8 has, and numbers that no answer brings. */
+extern uint8_t pattern[LENT_MOST];
+
+void fill_pattern(void);
 
 struct lent {
     void *at;

@@ -44,9 +44,6 @@ struct rows {
     uint64_t prepared[2][7], equal[4], order[4], flipped[4], substring[8];
 };
 
-/* What stands in a key buffer before a call: octets that no UTF-8 has. */
-static uint8_t pattern[LENT_MOST];
-
 /* The length that the key of the first octets of a text has, in a buffer that is always long enough; 0 if the call is refused. */
 static size_t key_length_of(const struct pair *pair, const struct text *text, size_t length) {
     static uint8_t key[LENT_MOST];
@@ -314,9 +311,6 @@ void fuzz_texts(const uint8_t *data, size_t size) {
     static struct pair pair;
     struct rows first, rows;
     struct input input = {data, size};
-    if (pattern[0] == 0)
-        for (size_t at = 0; at < LENT_MOST; at++)
-            pattern[at] = (uint8_t)(0xF8 | at % 7);
     take_pair(&input, &pair);
     for (enum memory memory = 0; memory < MEMORIES; memory++) {
         uint64_t verdict[3];

@@ -11,7 +11,7 @@ pub struct Table {
     pub entries: Vec<u32>,
     pub pool: Vec<u32>,
     pub verdict: Verdict,
-    lent: LentTable,
+    pub lent: LentTable,
 }
 
 /// What both programs answered, and the key buffers after the call (the second one empty where there is one text).
@@ -35,6 +35,16 @@ pub struct Case {
 /// What stands in a buffer before a call: octets that no UTF-8 has, and no two next to each other the same.
 pub fn pattern(length: usize) -> Vec<u8> {
     (0..length).map(|at| 0xF8 | (at % 7) as u8).collect()
+}
+
+/// What stands in a slice of numbers before a call: numbers from one on that no call brings.
+pub fn number_pattern(first: u32, length: usize) -> Vec<u32> {
+    (0..length as u32).map(|at| first + at).collect()
+}
+
+/// What the report of a difference shows of an answer.
+pub trait Describe {
+    fn describe(&self) -> String;
 }
 
 impl Table {
@@ -79,7 +89,7 @@ impl Table {
         let row = collate::prepare(collation, text, &self.verdict, &mut key);
         let expected = Agreed { row, first_key: key, second_key: Vec::new() };
         let case = || Case { collation, first: text.to_vec(), second: Vec::new(), first_room: room, second_room: 0 };
-        let agreed = self.agree(PREPARE.name, accepted, case, answer, expected)?;
+        let agreed = self.agree(PREPARE.name, accepted, || case().describe(), answer, expected)?;
         if collation == 3 && !is_within_bounds(text, &agreed.row) {
             return Err(format!("over the bounds: {:?}\n{}{}", agreed.row, case().describe(), self.describe()));
         }
@@ -116,35 +126,40 @@ impl Table {
         let (mut first_key, mut second_key) = (pattern(case.first_room), pattern(case.second_room));
         let pair = Pair { collation: case.collation, first: texts.0, second: texts.1, verdict: &self.verdict };
         let row = second(&pair, &mut first_key, &mut second_key);
-        self.agree(call.name, accepted, || case.clone(), answer, Agreed { row, first_key, second_key })
+        self.agree(call.name, accepted, || case.describe(), answer, Agreed { row, first_key, second_key })
     }
 
-    fn agree<const N: usize>(
+    /// Both programs' answers to a case must be the same.
+    pub fn agree<A: PartialEq + Describe>(
         &self,
         name: &str,
         accepted: bool,
-        case: impl Fn() -> Case,
-        answer: Result<Agreed<N>, String>,
-        expected: Agreed<N>,
-    ) -> Result<Agreed<N>, String> {
+        case: impl Fn() -> String,
+        answer: Result<A, String>,
+        expected: A,
+    ) -> Result<A, String> {
         if answer.as_ref() == Ok(&expected) {
             return Ok(expected);
         }
         let library = answer.map_or_else(|fault| fault, |answer| answer.describe());
         let twin = if accepted { ", without the check of the table" } else { "" };
-        let (case, second) = (case().describe(), expected.describe());
+        let (case, second) = (case(), expected.describe());
         Err(format!("{name}{twin}\n{case}{}library: {library}\nsecond:  {second}", self.describe()))
     }
 
-    /// Makes every call on one case, and answers with the row of the last, the substring's. Those without the check of the table
-    /// are made where the header allows them.
+    /// The forms of a call that the header allows: with the check of the table (false), and without it.
+    pub fn forms(&self, collation: u32) -> &'static [bool] {
+        if collation != 3 || self.is_accepted() {
+            &[false, true]
+        } else {
+            &[false]
+        }
+    }
+
+    /// Makes every call on one case in all forms, and answers with the row of the last, the substring's.
     pub fn make_all_calls(&self, case: &Case) -> Result<[u64; 8], String> {
-        let allowed = case.collation != 3 || self.is_accepted();
         let mut row = [0; 8];
-        for accepted in [false, true] {
-            if accepted && !allowed {
-                continue;
-            }
+        for &accepted in self.forms(case.collation) {
             self.prepare(accepted, case.collation, &case.first, case.first_room)?;
             self.prepare(accepted, case.collation, &case.second, case.second_room)?;
             let equality = self.equal(accepted, case)?.row;
@@ -163,7 +178,7 @@ impl Table {
     }
 }
 
-impl<const N: usize> Agreed<N> {
+impl<const N: usize> Describe for Agreed<N> {
     fn describe(&self) -> String {
         format!("{:?}\n  first key buffer {}\n  second key buffer {}", self.row, hex(&self.first_key), hex(&self.second_key))
     }

@@ -1,5 +1,6 @@
 //! A line given to both builders: their answers and the slices must be the same.
 
+use crate::both::number_pattern;
 use crate::hex::{hex, hex_numbers};
 use crate::library::{self, LentTable};
 use second::unicode_data::{self, State};
@@ -14,8 +15,8 @@ pub struct Building {
 impl Building {
     /// Slices of the given lengths, filled with a pattern that no line brings.
     pub fn new(entries_length: usize, pool_length: usize) -> Building {
-        let entries: Vec<u32> = (0..entries_length as u32).map(|at| 0xEE00_0000 + at).collect();
-        let pool: Vec<u32> = (0..pool_length as u32).map(|at| 0xBB00_0000 + at).collect();
+        let entries = number_pattern(0xEE00_0000, entries_length);
+        let pool = number_pattern(0xBB00_0000, pool_length);
         Building { lent: LentTable::new(&entries, &pool), entries, pool }
     }
 

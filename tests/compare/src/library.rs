@@ -1,7 +1,8 @@
 //! The C calls of the proved library, each made on both copies of its guarded memory. The answers must be the same.
 
-use crate::abi::{mz_add_line, mz_check_table, mz_read_record, mz_write_key, mz_write_text, Comparing, Preparing};
+use crate::abi::{mz_add_line, mz_check_table, mz_read_record, mz_write_key, mz_write_text, Comparing, Preparing, Sharing};
 use crate::lent::{Lent, SIDES};
+use second::lists::Report;
 use second::records::Origin;
 use second::unicode_data::State;
 
@@ -224,5 +225,54 @@ pub fn write_key(origin: Origin, key: &[u8], records: &mut Lent<u8>, position: u
     if !lent_key.still_holds(key) {
         return Err("the library changed the key that it wrote".to_string());
     }
+    row(&answer)
+}
+
+/// Finds what two lists share; store and arrays are filled from the report before and copied back after.
+pub fn find_shared(
+    call: Sharing,
+    collation: u32,
+    (first, second): (&[u8], &[u8]),
+    table: &LentTable,
+    report: Report,
+) -> Result<[u64; 7], String> {
+    let lent_first = lend_records(first);
+    let lent_second = lend_records(second);
+    let mut store = Lent::new(report.store, OCTET_GUARD);
+    let mut partners = Lent::new(report.partners, NUMBER_GUARD);
+    let mut positions = Lent::new(report.positions, NUMBER_GUARD);
+    let mut answer = new_row::<7>();
+    for side in SIDES {
+        // SAFETY: each pointer is that of a lent slice of the length after it.
+        unsafe {
+            call(
+                collation,
+                lent_first.pointer(side),
+                lent_first.length(),
+                lent_second.pointer(side),
+                lent_second.length(),
+                table.entries.pointer(side),
+                table.entries.length(),
+                table.pool.pointer(side),
+                table.pool.length(),
+                store.pointer_mut(side),
+                store.length(),
+                partners.pointer_mut(side),
+                partners.length(),
+                positions.pointer_mut(side),
+                positions.length(),
+                answer.pointer_mut(side).cast(),
+            );
+        }
+    }
+    if !lent_first.still_holds(first) || !lent_second.still_holds(second) {
+        return Err("the library changed a list".to_string());
+    }
+    if !store.agrees() || !partners.agrees() || !positions.agrees() {
+        return Err("the library wrote outside the store or an array, or left two reports".to_string());
+    }
+    report.store.copy_from_slice(store.content());
+    report.partners.copy_from_slice(partners.content());
+    report.positions.copy_from_slice(positions.content());
     row(&answer)
 }

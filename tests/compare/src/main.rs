@@ -5,7 +5,7 @@
 //! at fault, or a part would run no case. A read or write outside a lent slice ends the process by SIGSEGV (see `pages`).
 //!
 //! Variables: MZ_SEED and MZ_CASES (the random parts), MZ_UNICODE_DATA and MZ_NFKD (files of part 2), UTF8_TEST (the published
-//! stress test, if it is at hand), MZ_SHORT=yes (part 2 without the scalar code points and NFKD, fewer cases in 3, 4 and 6),
+//! stress test, if it is at hand), MZ_SHORT=yes (part 2 without the scalar code points and NFKD, fewer cases in 3, 4, 6 and 7),
 //! MZ_PARTS (the numbers of the parts to run, all without it).
 
 mod abi;
@@ -13,6 +13,7 @@ mod both;
 mod building;
 mod cases;
 mod example_lines;
+mod example_lists;
 mod example_records;
 mod example_tables;
 mod example_titlecases;
@@ -22,6 +23,8 @@ mod hex;
 mod lent;
 mod library;
 mod lines;
+mod list_cases;
+mod lists;
 mod made;
 mod pages;
 mod published;
@@ -31,6 +34,7 @@ mod record_lists;
 mod recording;
 mod records;
 mod settings;
+mod sharing;
 mod small;
 mod stop;
 mod stress;
@@ -51,13 +55,14 @@ struct Part {
     run: fn(&Settings) -> Result<u64, Stop>,
 }
 
-const PARTS: [Part; 6] = [
+const PARTS: [Part; 7] = [
     Part { number: '1', name: "part 1, examples", run: examples::run },
     Part { number: '2', name: "part 2, UnicodeData", run: published::run },
     Part { number: '3', name: "part 3, UTF-8 sequences", run: stress::run },
     Part { number: '4', name: "part 4, small cases", run: small::run },
     Part { number: '5', name: "part 5, random cases", run: cases::run },
     Part { number: '6', name: "part 6, records", run: records::run },
+    Part { number: '7', name: "part 7, lists", run: lists::run },
 ];
 
 /// The parts that a list of numbers names, in their order.

@@ -262,7 +262,7 @@ fn spoil(random: &mut Random, item: &mut Item) {
 }
 
 /// The octets of a record, composed here: one that may be, or one with a field at fault.
-fn raw(random: &mut Random) -> Vec<u8> {
+pub fn raw(random: &mut Random) -> Vec<u8> {
     let mut item = fitting(random);
     if random.one_in(3) {
         spoil(random, &mut item);
@@ -289,7 +289,7 @@ fn likely_octets(random: &mut Random) -> Vec<u8> {
 }
 
 /// Changes a slice in one place.
-fn damage(random: &mut Random, records: &mut Vec<u8>) {
+pub fn damage(random: &mut Random, records: &mut Vec<u8>) {
     if records.is_empty() {
         return records.extend(likely_octets(random));
     }

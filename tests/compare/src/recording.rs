@@ -58,6 +58,12 @@ impl Item {
     }
 }
 
+/// The octets of a record, composed here and by neither program.
+pub fn record(kind: u16, body: &[u8]) -> Vec<u8> {
+    let length = 2 + body.len() as u32;
+    [&length.to_le_bytes()[..], &kind.to_le_bytes(), body].concat()
+}
+
 /// A slice of records as both programs hold it.
 pub struct Recording {
     pub octets: Vec<u8>,

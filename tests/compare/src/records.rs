@@ -2,7 +2,7 @@
 
 use crate::both::pattern;
 use crate::record_lists;
-use crate::recording::{Item, Recording};
+use crate::recording::{record, Item, Recording};
 use crate::settings::Settings;
 use crate::stop::Stop;
 use second::records::Origin;
@@ -80,8 +80,7 @@ fn kinds(short: bool) -> Result<u64, String> {
             continue;
         }
         for body in BODIES {
-            let slice = [&[2 + body.len() as u8, 0, 0, 0, low, high], body].concat();
-            Recording::new(slice).read_on(0)?;
+            Recording::new(record(kind, body)).read_on(0)?;
             cases += 1;
         }
     }
@@ -147,33 +146,41 @@ fn one_key(origin: Origin, key: &[u8]) -> Result<(), String> {
     Recording::new(pattern(item.whole_length())).write(&item, 0)?;
     let fields = (u8::try_from(origin.collation), u8::try_from(origin.valid), u16::try_from(origin.text_length));
     if let (Ok(collation), Ok(valid), Ok(text_length)) = fields {
-        let length = (6 + key.len() as u32).to_le_bytes();
-        let slice = [&length[..], &[2, 0, collation, valid], &text_length.to_le_bytes(), key].concat();
-        Recording::new(slice).read(0)?;
+        let body = [&[collation, valid], &text_length.to_le_bytes()[..], key].concat();
+        Recording::new(record(2, &body)).read(0)?;
     }
     Ok(())
 }
 
-/// The list with every octet, or some, at every place: read from each record on.
-fn damaged(short: bool) -> Result<u64, String> {
+/// A slice with every octet, or some, at every place.
+pub fn with_damage(slice: &[u8], short: bool) -> Vec<Vec<u8>> {
     const FEW: [u8; 9] = [0, 1, 2, 3, 4, 7, 0x7F, 0x80, 0xFF];
-    let (list, positions) = list()?;
-    let mut cases = 0;
-    for at in 0..list.len() {
+    let mut slices = Vec::new();
+    for at in 0..slice.len() {
         for octet in 0..=u8::MAX {
-            let near = octet.abs_diff(list[at]) <= 1;
+            let near = octet.abs_diff(slice[at]) <= 1;
             if short && !near && !FEW.contains(&octet) {
                 continue;
             }
-            let mut octets = list.clone();
+            let mut octets = slice.to_vec();
             octets[at] = octet;
-            let mut recording = Recording::new(octets);
-            for &position in &positions {
-                recording.read(position)?;
-            }
-            recording.read_on(0)?;
-            cases += 1 + positions.len() as u64;
+            slices.push(octets);
         }
+    }
+    slices
+}
+
+/// The list with every octet, or some, at every place: read from each record on.
+fn damaged(short: bool) -> Result<u64, String> {
+    let (list, positions) = list()?;
+    let mut cases = 0;
+    for octets in with_damage(&list, short) {
+        let mut recording = Recording::new(octets);
+        for &position in &positions {
+            recording.read(position)?;
+        }
+        recording.read_on(0)?;
+        cases += 1 + positions.len() as u64;
     }
     Ok(cases)
 }

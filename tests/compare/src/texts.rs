@@ -34,7 +34,7 @@ pub fn case(random: &mut Random, table: &Table) -> Case {
 }
 
 /// A text: mostly short, a third of them damaged.
-fn text(random: &mut Random, letters: &[u32]) -> Vec<u8> {
+pub fn text(random: &mut Random, letters: &[u32]) -> Vec<u8> {
     let mut text = Vec::new();
     if random.one_in(200) {
         let length = random.between(4_090, 4_100);
@@ -114,7 +114,7 @@ pub fn damage(random: &mut Random, text: &mut Vec<u8>) {
 }
 
 /// A text that has something in common with another, or nothing.
-fn related(random: &mut Random, other: &[u8], collation: u32, table: &Table, letters: &[u32]) -> Vec<u8> {
+pub fn related(random: &mut Random, other: &[u8], collation: u32, table: &Table, letters: &[u32]) -> Vec<u8> {
     match random.below(9) {
         0 | 1 => text(random, letters),
         2 => other.to_vec(),
@@ -146,7 +146,7 @@ fn changed(random: &mut Random, other: &[u8]) -> Vec<u8> {
 }
 
 /// A text's key as the second program has it; of use for making cases even where a call will be refused.
-fn key(collation: u32, text: &[u8], table: &Table) -> Vec<u8> {
+pub fn key(collation: u32, text: &[u8], table: &Table) -> Vec<u8> {
     match &table.verdict {
         Ok(accepted) => key_of(collation, text, accepted).octets,
         Err(_) => text.to_vec(),

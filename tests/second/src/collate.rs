@@ -8,7 +8,7 @@ use std::cmp::Ordering;
 
 pub const TEXT_MOST: usize = 4_096;
 
-/// Two texts, and the verdict on the table that is lent with them.
+/// Two texts or two lists, and the verdict on the table that is lent with them.
 pub struct Pair<'a> {
     pub collation: u32,
     pub first: &'a [u8],
@@ -72,7 +72,7 @@ pub fn substring(pair: &Pair, first_buffer: &mut [u8], second_buffer: &mut [u8])
 }
 
 /// Octet by octet, unsigned, told without the language's own order of slices.
-fn order_of(first: &[u8], second: &[u8]) -> Ordering {
+pub(crate) fn order_of(first: &[u8], second: &[u8]) -> Ordering {
     for (&one, &other) in first.iter().zip(second) {
         if one != other {
             return one.cmp(&other);
@@ -92,7 +92,7 @@ fn leave_keys(collation: u32, texts: &[&[u8]], verdict: &Verdict, buffers: &mut 
     check_collation(collation)?;
     check_texts(texts)?;
     let empty = Table::default();
-    let table = if reads_table(collation) { verdict.as_ref().map_err(|refusal| *refusal)? } else { &empty };
+    let table = table_under(collation, verdict, &empty)?;
     let keys: Vec<Key> = texts.iter().map(|text| key_of(collation, text, table)).collect();
     check_room(&keys, buffers)?;
     for (key, buffer) in keys.iter().zip(buffers.iter_mut()) {
@@ -102,7 +102,7 @@ fn leave_keys(collation: u32, texts: &[&[u8]], verdict: &Verdict, buffers: &mut 
 }
 
 /// 1: "collation not 1, 2, 3".
-fn check_collation(collation: u32) -> Result<(), Refusal> {
+pub(crate) fn check_collation(collation: u32) -> Result<(), Refusal> {
     match collation {
         OCTET | ASCII_CASEMAP | UNICODE_CASEMAP => Ok(()),
         _ => Err(Refusal::of_no_text(1, 0)),
@@ -122,6 +122,15 @@ fn check_texts(texts: &[&[u8]]) -> Result<(), Refusal> {
 /// "Collations 1 and 2 don't read the table. Every public call under 3 checks it."
 fn reads_table(collation: u32) -> bool {
     collation == UNICODE_CASEMAP
+}
+
+/// The table that a collation reads, accepted or refused; the empty one where it reads none.
+pub(crate) fn table_under<'a>(collation: u32, verdict: &'a Verdict, empty: &'a Table) -> Result<&'a Table, Refusal> {
+    if reads_table(collation) {
+        verdict.as_ref().map_err(|refusal| *refusal)
+    } else {
+        Ok(empty)
+    }
 }
 
 /// 8: "a key that belongs in a buffer is longer than it; first text, then second".

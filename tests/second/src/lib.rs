@@ -6,6 +6,7 @@
 
 pub mod collate;
 pub mod key;
+pub mod lists;
 pub mod records;
 pub mod refusal;
 pub mod substring;

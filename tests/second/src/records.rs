@@ -95,7 +95,7 @@ fn octets_from(records: &[u8], position: u64) -> Option<&[u8]> {
 
 /// Kind and body of the record that stands first. `None` is 11: "fewer octets left than four or than the length says, or a length
 /// below 2", which doesn't hold the kind.
-fn open(left: &[u8]) -> Option<(u64, &[u8])> {
+pub(crate) fn open(left: &[u8]) -> Option<(u64, &[u8])> {
     let (length, after) = take_number(LENGTH_WIDTH, left)?;
     let followed = after.get(..usize::try_from(length).ok()?)?;
     take_number(KIND_WIDTH, followed)
@@ -117,7 +117,7 @@ fn open_key(body: &[u8]) -> Option<(Origin, &[u8])> {
 }
 
 /// Whether a record may hold a text.
-fn is_text(text: &[u8]) -> bool {
+pub(crate) fn is_text(text: &[u8]) -> bool {
     text.len() <= TEXT_MOST
 }
 
@@ -167,7 +167,7 @@ fn write(kind: u64, body: &[u8], records: &mut [u8], position: u64) -> [u64; 4] 
 }
 
 /// How many octets a record has, its length and kind included.
-fn whole_length(body: &[u8]) -> usize {
+pub(crate) fn whole_length(body: &[u8]) -> usize {
     LENGTH_WIDTH + KIND_WIDTH + body.len()
 }
 

@@ -1,6 +1,6 @@
 //! "Checks run in this order; the first that applies is given, with a place and a detail."
 
-/// A refusal: its number, its place (1 or 2: which text, a lone one being 1; 0: neither) and its detail (0 if not said).
+/// A refusal: its number, its place (1 or 2: which text or list, a lone one being 1; 0: neither) and its detail (0 if not said).
 #[derive(Clone, Copy, Debug, PartialEq, Eq)]
 pub struct Refusal {
     pub number: u64,
@@ -9,12 +9,12 @@ pub struct Refusal {
 }
 
 impl Refusal {
-    /// A refusal that is no text's fault.
+    /// A refusal that is no text's fault, and no list's.
     pub fn of_no_text(number: u64, detail: usize) -> Refusal {
         Refusal { number, place: 0, detail: detail as u64 }
     }
 
-    /// A refusal because of one text; `index` counts texts from 0, places from 1.
+    /// A refusal because of one text or list; `index` counts them from 0, places from 1.
     pub fn of_text(number: u64, index: usize, detail: usize) -> Refusal {
         Refusal { number, place: index as u64 + 1, detail: detail as u64 }
     }
