@@ -1,14 +1,18 @@
 #!/usr/bin/env bash
-# Builds the benchmarks: build/bench/occurrence, build/bench/records, and build/bench/names with each program that can be built
-# here; it says which can't.
+# Builds the benchmarks: build/bench/occurrence, build/bench/records, build/bench/lists with Python's column if Python is here, and
+# build/bench/names with each program that can be built here; it says which can't.
 # MUNDEZIWA_ARCHIVE: the library's archive, if it isn't where `make lib` leaves it.
 set -euo pipefail
 cd "$(dirname "$0")/.."
 
 archive=${MUNDEZIWA_ARCHIVE:-build/lib/libmundeziwa.a}
 out=build/bench
-sources=(bench/names.c bench/inputs.c bench/agreement.c bench/straight.c bench/straight_lines.c bench/peers_mundeziwa.c)
+# names made from the published file, and their keys by Mundeziwa and by straight C
+keyed=(bench/inputs.c bench/straight.c bench/straight_lines.c bench/peers_mundeziwa.c)
+sources=(bench/names.c bench/agreement.c "${keyed[@]}")
+lists=(bench/lists.c bench/list_inputs.c bench/straight_lists.c bench/straight_records.c "${keyed[@]}")
 flags=()
+list_flags=()
 libraries=("$archive")
 
 # add_library NAME HEADER LIBRARY PACKAGE: adds bench/peers_NAME.c, if a program with that header and library can be built.
@@ -35,11 +39,22 @@ add_second() {
     libraries+=("$out/second/release/libsecond_for_c.a" -lpthread -ldl -lm)
 }
 
+# Adds Python, if it is here.
+add_python() {
+    if command -v python3 > /dev/null; then
+        list_flags+=(-DWITH_PYTHON)
+    else
+        echo "no column for Python: Debian's package python3 is missing"
+    fi
+}
+
 mkdir -p "$out"
+add_python
 add_second
 add_library icu unicode/unorm2.h icuuc libicu-dev
 add_library utf8proc utf8proc.h utf8proc libutf8proc-dev
 add_library unistring uninorm.h unistring libunistring-dev
 cc -O3 -Wall -Wextra -o "$out/occurrence" bench/occurrence.c target/staticlib/libbench_find.a
 cc -O3 -Wall -Wextra -o "$out/records" bench/records.c bench/straight_records.c "$archive"
+cc -O3 -Wall -Wextra "${list_flags[@]}" -o "$out/lists" "${lists[@]}" "$archive"
 cc -O3 -Wall -Wextra "${flags[@]}" -o "$out/names" "${sources[@]}" "${libraries[@]}"

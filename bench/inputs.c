@@ -8,24 +8,23 @@
 // Room for two listed names, a space between and the end of the string.
 #define NAME_ROOM (2 * NAME_MOST + 2)
 
-// How a name is written.
-enum spelling { COMPOSED, DECOMPOSED, CAPITALS, DECOMPOSED_CAPITALS, SPELLINGS };
-
 static uint32_t seed;
 
-static void fail(const char *what) {
+void fail(const char *what) {
     fprintf(stderr, "%s\n", what);
     exit(1);
 }
 
-// A number below `bound`, at random.
-static uint32_t draw(uint32_t bound) {
+void begin_draws(void) {
+    seed = 1;
+}
+
+uint32_t draw(uint32_t bound) {
     seed = seed * 1664525 + 1013904223;
     return (seed >> 16) % bound;
 }
 
-// Spells a name anew: its length in octets, or 0 if it would pass NAME_MOST.
-static size_t spell(const struct table *table, const char *name, enum spelling spelling, uint8_t *octets) {
+size_t spell(const struct table *table, const char *name, enum spelling spelling, uint8_t *octets, size_t most) {
     // Over the empty table a code point unfolds into itself.
     static const struct table empty;
     const struct table *parts = spelling == DECOMPOSED || spelling == DECOMPOSED_CAPITALS ? table : &empty;
@@ -35,7 +34,7 @@ static size_t spell(const struct table *table, const char *name, enum spelling s
     for (size_t i = 0; i < length && at;) {
         uint32_t c;
         i += straight_decode((const uint8_t *)name + i, length - i, &c);
-        at = straight_unfold(parts, straight_title(titles, c), at, octets + NAME_MOST);
+        at = straight_unfold(parts, straight_title(titles, c), at, octets + most);
     }
     return at ? (size_t)(at - octets) : 0;
 }
@@ -58,15 +57,16 @@ static void draw_pair(struct names *names, size_t i, const struct table *table, 
         enum spelling spelling = draw(SPELLINGS);
         draw_name(row, name);
         draw_name(row, other);
-        first_length = spell(table, name, spelling, first);
-        second_length = spell(table, same ? name : other, (spelling + 1 + draw(SPELLINGS - 1)) % SPELLINGS, second);
+        first_length = spell(table, name, spelling, first, NAME_MOST);
+        enum spelling other_spelling = (spelling + 1 + draw(SPELLINGS - 1)) % SPELLINGS;
+        second_length = spell(table, same ? name : other, other_spelling, second, NAME_MOST);
     } while (first_length < NAME_LEAST || second_length < NAME_LEAST);
     names->first[i] = (struct text){first, first_length};
     names->second[i] = (struct text){second, second_length};
 }
 
 static void make_names(struct names *names, const struct table *table, name_row *rows, uint32_t count) {
-    seed = 1;
+    begin_draws();
     for (size_t i = 0; i < NAMES; i++) draw_pair(names, i, table, rows[draw(count)], i % 2 == 0);
 }
 
@@ -84,7 +84,7 @@ static void make_prose(uint8_t *octets) {
                                         "wind ", "was ", "to ", "coast ", "for ", "names ", "which ", "reached ", "over ",
                                         "night. ", "José ", "Noël "};
     size_t at = 0;
-    seed = 1;
+    begin_draws();
     memset(octets, ' ', TEXT_MOST);
     for (;;) {
         const char *word = words[draw(sizeof words / sizeof *words)];

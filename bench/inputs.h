@@ -27,6 +27,21 @@ struct inputs {
     uint8_t mixed_text[TEXT_MOST], prose[TEXT_MOST];
 };
 
+// How a name is written.
+enum spelling { COMPOSED, DECOMPOSED, CAPITALS, DECOMPOSED_CAPITALS, SPELLINGS };
+
+// Ends the program with a message.
+_Noreturn void fail(const char *what);
+
+// Begins the draws anew, so that what is made after it does not depend on what was made before.
+void begin_draws(void);
+
+// A number below `bound`, at random.
+uint32_t draw(uint32_t bound);
+
+// Spells a name anew: its length in octets, or 0 if it would pass `most`.
+size_t spell(const struct table *table, const char *name, enum spelling spelling, uint8_t *octets, size_t most);
+
 // Makes the same inputs at each run; ends the program if it can't, or if they are not as said above. The table comes from the
 // file, and gives the spellings: what a letter decomposes into, and its capital.
 void make_inputs(struct inputs *inputs, const char *path);
