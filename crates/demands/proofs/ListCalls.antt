@@ -98,10 +98,11 @@ module _ (c : ListsCall) where
           go true e = rw e
           go false e = rw (e, lt-ltb (length (c .positions)) (length ts) h)
 
-  -- ---- every call has words
+  -- ---- every call has words, or passed
 
   abbrev Decided : Type 0
-  Decided = (listsRefusal c ≡ none) ⊎ ((x : Refusal) × ListsRefused c x)
+  Decided =
+      ((listsRefusal c ≡ none) × Listed c (namesIn (c .firstList)) (namesIn (c .secondList))) ⊎ ((x : Refusal) × ListsRefused c x)
 
   module _ (l : Listed c (namesIn (c .firstList)) (namesIn (c .secondList))) where
     arrays-decided : tableCheck (c .collation) (c .table) ≡ none → length (allKeys c) ≤ length (c .store)
@@ -120,7 +121,7 @@ module _ (c : ListsCall) where
           array-8 (namesIn (c .firstList)) (namesIn (c .secondList)) l t s (inr (ltb-true _ _ f)),
         )
     arrays-decided t s false false e f =
-        inl (refused-rooms c (passes l) t ∙ rw (le-ltb (length (c .store)) (length (allKeys c)) s, e, f))
+        inl (refused-rooms c (passes l) t ∙ rw (le-ltb (length (c .store)) (length (allKeys c)) s, e, f), l)
 
     store-decided : tableCheck (c .collation) (c .table) ≡ none → (b : Bool) → ltb (length (c .store)) (length
         (allKeys c)) ≡ b → Decided
@@ -203,56 +204,13 @@ module _ (c : ListsCall) where
   words-refused x e = go (decided (c .collation) refl)
     where
       go : Decided → ListsRefused c x
-      go (inl f) = absurd (none-some x (sym f ∙ e))
+      go (inl f) = absurd (none-some x (sym (f .0) ∙ e))
       go (inr w) = let same : w .0 ≡ x = some-same (sym (refused-words (w .0) (w .1)) ∙ e) in rw (← same) (w .1)
 
   -- a call without a refusal: the collation is known, both are lists of at most 1,024 names, and the table passes
   pub unrefused-listed : listsRefusal c ≡ none → Listed c (namesIn (c .firstList)) (namesIn (c .secondList))
-  unrefused-listed e = known (c .collation) refl
+  unrefused-listed e = go (decided (c .collation) refl)
     where
-      refuses : {A : Type 0} (x : Refusal) → ListsRefused c x → A
-      refuses x w = absurd (none-some x (sym e ∙ refused-words x w))
-
-      counts : (k : Collation) → c .collation ≡ some k → listFault (c .firstList) ≡ none → listFault (c .secondList) ≡ none
-          → (a b : Bool)
-          → ltb 1024 (length (namesIn (c .firstList))) ≡ a
-          → ltb 1024 (length (namesIn (c .secondList))) ≡ b
-          → Listed c (namesIn (c .firstList)) (namesIn (c .secondList))
-      counts k f n m true b g h =
-          refuses (refusal 14 1 0)
-          (first-14 k (namesIn (c .firstList)) (namesIn (c .secondList)) f (names-there (c .firstList) n)
-          (names-there (c .secondList) m)
-          (ltb-true _ _ g))
-      counts k f n m false true g h =
-          refuses (refusal 14 2 0)
-          (second-14 k (namesIn (c .firstList)) (namesIn (c .secondList)) f (names-there (c .firstList) n)
-          (names-there (c .secondList) m)
-          (ltb-false _ _ g)
-          (ltb-true _ _ h))
-      counts k f n m false false g h = record {
-        collation = k;
-        known = f;
-        first = names-there (c .firstList) n;
-        second = names-there (c .secondList) m;
-        firstMost = ltb-false 1024 (length (namesIn (c .firstList))) g;
-        secondMost = ltb-false 1024 (length (namesIn (c .secondList))) h;
-      }
-
-      second : (k : Collation) → c .collation ≡ some k → listFault (c .firstList) ≡ none → (o : Option Refusal)
-          → listFault (c .secondList) ≡ o
-          → Listed c (namesIn (c .firstList)) (namesIn (c .secondList))
-      second k f n (some x) h =
-          refuses (refusal (x .number) 2 (x .detail))
-          (second-11-to-13 k (namesIn (c .firstList)) x f (names-there (c .firstList) n) (faulty-there (c .secondList) x h))
-      second k f n none h =
-          counts k f n h (ltb 1024 (length (namesIn (c .firstList)))) (ltb 1024 (length (namesIn (c .secondList)))) refl refl
-
-      first-list : (k : Collation) → c .collation ≡ some k → (o : Option Refusal) → listFault (c .firstList) ≡ o
-          → Listed c (namesIn (c .firstList)) (namesIn (c .secondList))
-      first-list k f (some x) h =
-          refuses (refusal (x .number) 1 (x .detail)) (first-11-to-13 k x f (faulty-there (c .firstList) x h))
-      first-list k f none h = second k f h (listFault (c .secondList)) refl
-
-      known : (o : Option Collation) → c .collation ≡ o → Listed c (namesIn (c .firstList)) (namesIn (c .secondList))
-      known none f = refuses (refusal 1 0 0) (number-1 f)
-      known (some k) f = first-list k f (listFault (c .firstList)) refl
+      go : Decided → Listed c (namesIn (c .firstList)) (namesIn (c .secondList))
+      go (inl d) = d .1
+      go (inr w) = absurd (none-some (w .0) (sym e ∙ refused-words (w .0) (w .1)))
