@@ -8,8 +8,9 @@
  *
  * SLICES. A slice is a pointer and the number of its ELEMENTS (octets of a text, 32-bit numbers of a table). Where the number
  * is 0 the pointer may be anything that is aligned, but not NULL. Slices that are written (key buffers; entries and pool of
- * mz_add_line; the records of mz_write_text and mz_write_key; store, partners and positions of mz_find_shared; the answer) must
- * overlap no other argument; those that are only read may overlap each other.
+ * mz_add_line; the records of mz_write_text and mz_write_key; store, partners and positions of mz_find_shared; store, key_ends and
+ * valid of mz_prepare_many; row, repeats and partners of mz_match_keys; the answer) must overlap no other argument; those that
+ * are only read may overlap each other.
  *
  * TABLE. entries holds MZ_ENTRY_WIDTH numbers for each entry: code point, titlecase (the code point itself if none), start of its
  * decomposition in the pool, number of code points there. Entries ascend by code point; a start is the sum of all earlier counts.
@@ -55,6 +56,7 @@ extern "C" {
 #define MZ_LINE_MOST 512          /* octets of a line of UnicodeData.txt */
 #define MZ_KEY_PER_OCTET_MOST 128 /* octets of a key for each octet of its text */
 #define MZ_NAMES_MOST 1024        /* names of a list */
+#define MZ_ENDS_MOST 4294967295   /* texts or keys in one slice, told by their ends */
 
 /* Kinds of record. */
 #define MZ_KIND_TEXT 1 /* a text */
@@ -97,6 +99,15 @@ extern "C" {
  * array the number of the first list's names, for 3 to 7 as above, else 0. */
 #define MZ_REFUSED_NAME_COUNT 14 /* a list has over MZ_NAMES_MOST names */
 #define MZ_REFUSED_LIST_ROOM 8   /* the store, or one of the arrays, is too short (the number is also those of the other rooms) */
+
+/* Refusals of a call on many texts, in their order: 1; 14, 36; 2; 3 to 7 as above; 8 for the store, 8 for the other two slices.
+ * Of a call on many keys: 14, 36; 37; 8 for row and repeats, 8 for partners. The place is 1 for 14, 36 and 2, else 0. The detail
+ * is for 36 and 2 the lowest number, from 0, of a text or key that is at fault; for 37 the number of keys; for 8 of the store the
+ * length of all keys together, for 8 of any other slice the elements needed; for 3 to 7 as above; else 0. */
+#define MZ_REFUSED_END_COUNT 14   /* over MZ_ENDS_MOST ends (the number is also that of MZ_REFUSED_NAME_COUNT) */
+#define MZ_REFUSED_END 36         /* an end is below the one before it, or past the octets */
+#define MZ_REFUSED_FIRST_COUNT 37 /* the first list is said to have more names than there are keys */
+#define MZ_REFUSED_MANY_ROOM 8    /* a slice to be written is too short (the number is also those of the other rooms) */
 
 /* The number of the interface that the library has: MZ_INTERFACE of the header that it was built with. */
 uint32_t mz_interface(void);
@@ -218,6 +229,45 @@ void mz_find_shared(uint32_t collation,
                     uint32_t *partners, size_t partners_length,
                     uint32_t *positions, size_t positions_length,
                     uint64_t answer[7]);
+
+/* MANY. Many texts, or many keys, stand one after another in one slice of octets with nothing between them, and a second slice
+ * says where each of them ends: number i, from 0, begins where the one before it ends, the first at 0, and ends before octet
+ * ends[i]. (Apache Arrow lays strings out so: pass its offsets from the second on.) Octets after the last end belong to none.
+ * Both calls take as many as there are, up to MZ_ENDS_MOST, and check the table once or read none: they are the ones for work. */
+
+/* Prepares many texts, each by itself. Leaves three things: at the start of store the keys of all texts, one after another with
+ * nothing between them, also those that are the text itself; in key_ends where each of them ends; in valid 1 for each text that
+ * is valid else 0 (always 1 under 1 and 2). All three stay as they were after that. key_ends and valid need one element for each
+ * text. A store of MZ_KEY_PER_OCTET_MOST times the octets of all texts is always long enough, and the call is then quickest; a
+ * shorter one costs a second walk. Called with no store, it says by 8 how long the keys are.
+ * answer: number, place, detail; the octets of all keys together. Refusals 1, 14, 36, 2, 3 to 7, 8. */
+void mz_prepare_many(uint32_t collation,
+                     const uint8_t *octets, size_t octets_length,
+                     const size_t *ends, size_t ends_length,
+                     const uint32_t *entries, size_t entries_length,
+                     const uint32_t *pool, size_t pool_length,
+                     uint8_t *store, size_t store_length,
+                     size_t *key_ends, size_t key_ends_length,
+                     uint8_t *valid, size_t valid_length,
+                     uint64_t answer[4]);
+
+/* Says which keys of two lists are equal: the keys of both as mz_prepare_many leaves them, the first list's before the second's
+ * (prepare the texts of both in one call), of which the first first_names are the first list's. It takes any number of names up to
+ * MZ_ENDS_MOST, and n log n comparisons of keys whatever they are. Leaves three things: in row the numbers of all keys, from 1, in
+ * the order of the keys, equal ones in the order of their numbers, so that of equal keys the first list's come before the
+ * second's; in repeats, for each place of the row, 1 if the key at the next place is equal to the one there, else 0, so that a 0
+ * ends a group of equal names; in partners, for each key of the first list in its turn, the lowest number in the second list,
+ * from 1, of a key that is equal to it, 0 if there is none. All three stay as they were after that. Row and repeats need one
+ * element for each key, partners one for each of the first list.
+ * answer: number, place, detail; equal pairs across the lists; names of the first list that have any partner.
+ * Refusals 14, 36, 37, 8. */
+void mz_match_keys(const uint8_t *store, size_t store_length,
+                   const size_t *ends, size_t ends_length,
+                   size_t first_names,
+                   uint32_t *row, size_t row_length,
+                   uint32_t *repeats, size_t repeats_length,
+                   uint32_t *partners, size_t partners_length,
+                   uint64_t answer[5]);
 
 #ifdef __cplusplus
 }

@@ -1,7 +1,8 @@
 -- What the contracts of the public calls say is what the theorems of the demands take, and they ask for nothing. `Learnt` is
 -- generated from the `ensures` of a function, and is what a caller learns of the arguments a, the result r and the slices s at
 -- exit; `Asked` is generated from its `requires`. So a contract that is weakened, or that comes to ask for something, is
--- refused here. The values of a slice stand under `now`; κs are the lifetimes. ContractsC.antt has the calls of the C interface.
+-- refused here. The values of a slice stand under `now`; κs are the lifetimes. ContractsC.antt has the calls of the C interface,
+-- ContractsBulk.antt those on many texts and keys.
 -- Assumes nothing.
 use mathlib.Core.Path.{_≡_}
 use mathlib.Core.List.{[], _∷_}

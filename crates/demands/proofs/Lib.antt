@@ -7,11 +7,13 @@ pub mod LineFaults
 pub mod ListCalls
 pub mod ListFaults
 pub mod Rows
+pub mod Rules
 pub mod Numbers
 pub mod Ordering
 pub mod Hits
 pub mod Growing
 pub mod Preparing
+pub mod Partnering
 pub mod RecordCalls
 pub mod RecordFaults
 pub mod RecordRuns
@@ -26,4 +28,6 @@ pub mod Request02
 pub mod Request02Refusals
 pub mod Request03
 pub mod Request03Refusals
+pub mod Bulk
 pub mod ContractsC
+pub mod ContractsBulk

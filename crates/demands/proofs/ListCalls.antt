@@ -19,7 +19,8 @@ use Rattle.terms.proofs.Tests.{none-some}
 use Rattle.decompose.specs.TableCheck.{tableRefusal}
 use Rattle.prepare.specs.Calls.{tableCheck}
 use Rattle.lists.specs.Names.{namesIn, listFault}
-use Rattle.lists.specs.Lists.{ListsCall, allKeys, namesChecks, arraysCheck, listsRefusal}
+use Rattle.storing.specs.Rooms.{arraysCheck}
+use Rattle.lists.specs.Lists.{ListsCall, allKeys, namesChecks, listsRefusal}
 use Rattle.lists.proofs.Sharing.{refused-table, refused-rooms}
 use Rattle.demands.specs.Lists.{Names, Listed, ListsRefused, number-1, first-11-to-13, second-11-to-13, first-14}
 use Rattle.demands.specs.Lists.{second-14, number-3-to-7, store-8, array-8}

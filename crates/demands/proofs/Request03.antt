@@ -27,18 +27,15 @@ use Rattle.compare.proofs.Preorder.{matches-tie}
 use Rattle.partners.specs.Partners.{those, equalTo, equalPairs, partnered, partnerOf, keyPositions}
 use Rattle.partners.proofs.Meaning as meaning
 use Rattle.lists.specs.Names.{namesIn}
-use Rattle.lists.specs.Lists.{ListsCall, joined, firstKeys, secondKeys, listsRefusal, sharedValues, slicesAfter}
+use Rattle.storing.specs.Stored.{joined}
+use Rattle.lists.specs.Lists.{ListsCall, firstKeys, secondKeys, listsRefusal, sharedValues, slicesAfter}
 use Rattle.lists.specs.declared.Shared.the-variants.{Found}
 use Rattle.lists.specs.declared.Totals.{Totals}
 use Rattle.demands.specs.Lists.{ShareCall, Names, Listed}
 use Rattle.demands.proofs.ListFaults.{names-are}
 use Rattle.demands.proofs.ListCalls.{unrefused-listed}
-
--- an element of a list made of another
-getD-map : (f : List ℕ → ℕ) (ks : List (List ℕ)) (i : ℕ) → i < length ks → getD (map f ks) i 0 ≡ f (getD ks i [])
-getD-map f [] i h = absurd (omega arith)
-getD-map f (k ∷ ks) zero h = refl
-getD-map f (k ∷ ks) (suc i) h = getD-map f ks i (omega arith)
+use Rattle.demands.proofs.Partnering.{partner-none, partner-lowest, positions-taken, positions-once, positions-bounded}
+use Rattle.demands.proofs.Partnering.{positions-rise, positions-tied}
 
 module _ {c : ListsCall} {t : Totals} {store partners positions : List ℕ}
     (call : ShareCall c (Found t) (store ∷ partners ∷ positions ∷ [])) where
@@ -102,24 +99,16 @@ module _ {c : ListsCall} {t : Totals} {store partners positions : List ℕ}
 
   -- the element of each name of the first list
   module _ (i : ℕ) (inside : i < length (firstKeys c)) where
-    partner-at : getD partners i 0 ≡ partnerOf (secondKeys c) (getD (firstKeys c) i [])
-    partner-at =
-        ap (λ (s : List ℕ). getD s i 0) partners-told
-        ∙ List·getD-append (map (partnerOf (secondKeys c)) (firstKeys c)) (drop (length (map (partnerOf (secondKeys c))
-        (firstKeys c))) (c .partners)) 0 i
-        (omega (arith, length-map (firstKeys c) (partnerOf (secondKeys c))))
-        ∙ getD-map (partnerOf (secondKeys c)) (firstKeys c) i inside
-
     -- is 0 exactly where no name of the second list has its key,
     pub no-partner : (getD partners i 0 ≡ 0)
         ↔ ((j : ℕ) → j < length (secondKeys c) → getD (firstKeys c) i [] ≡ getD (secondKeys c) j [] → ⊥)
-    no-partner = rw partner-at (meaning.partnerOf-none (secondKeys c) (getD (firstKeys c) i []))
+    no-partner = partner-none (firstKeys c) (secondKeys c) (c .partners) partners partners-told i inside
 
     -- and j + 1 exactly where the name at j has it and none before it
     pub lowest-partner : (j : ℕ) → (getD partners i 0 ≡ suc j)
         ↔ ((j < length (secondKeys c)) × (getD (firstKeys c) i [] ≡ getD (secondKeys c) j [])
         × ((h : ℕ) → h < j → getD (firstKeys c) i [] ≡ getD (secondKeys c) h [] → ⊥))
-    lowest-partner j = rw partner-at (meaning.partnerOf-lowest (secondKeys c) (getD (firstKeys c) i []) j)
+    lowest-partner j = partner-lowest (firstKeys c) (secondKeys c) (c .partners) partners partners-told i inside j
 
   -- ---- "A second lent array gets the first list's positions, from 1 too, in key order, ties by position; both stay beyond that."
 
@@ -128,40 +117,29 @@ module _ {c : ListsCall} {t : Totals} {store partners positions : List ℕ}
 
   -- they are the array's first elements, one for each name,
   pub positions-first : take (length (firstKeys c)) positions ≡ keyPositions (firstKeys c)
-  positions-first =
-      ap (take (length (firstKeys c))) positions-told
-      ∙ take-at (keyPositions (firstKeys c)) (drop (length (keyPositions (firstKeys c))) (c .positions)) (length (firstKeys c))
-      (meaning.length-keyPositions (firstKeys c))
+  positions-first = positions-taken (firstKeys c) (c .positions) positions positions-told
 
   -- every position, each once,
   pub position-once : (x : ℕ) → x < length (firstKeys c)
       → those (eqb (suc x)) (take (length (firstKeys c)) positions) ≡ suc x ∷ []
-  position-once x h = ap (those (eqb (suc x))) positions-first ∙ meaning.keyPositions-once (firstKeys c) x h
-
-  position-at : (i : ℕ) → i < length (firstKeys c) → getD positions i 0 ≡ getD (keyPositions (firstKeys c)) i 0
-  position-at i h =
-      ap (λ (s : List ℕ). getD s i 0) positions-told
-      ∙ List·getD-append (keyPositions (firstKeys c)) (drop (length (keyPositions (firstKeys c))) (c .positions)) 0 i
-      (omega (arith, meaning.length-keyPositions (firstKeys c)))
+  position-once x h = positions-once (firstKeys c) (c .positions) positions positions-told x h
 
   -- no other number,
   pub position-within : (i : ℕ) → i < length (firstKeys c)
       → (0 < getD positions i 0) × (getD positions i 0 ≤ length (firstKeys c))
-  position-within i h = rw (position-at i h) (meaning.keyPositions-within (firstKeys c) i h)
+  position-within i h = positions-bounded (firstKeys c) (c .positions) positions positions-told i h
 
   -- ascending by key,
   pub positions-ascend : (i j : ℕ) → i < j → j < length (firstKeys c)
       → orderOf (getD (firstKeys c) (getD positions i 0 - 1) []) (getD (firstKeys c) (getD positions j 0 - 1) []) ≡ Ordering·gt
       → ⊥
-  positions-ascend i j h k =
-      rw (position-at i (omega arith), position-at j k) (meaning.keyPositions-ascend (firstKeys c) i j h k)
+  positions-ascend i j h k = positions-rise (firstKeys c) (c .positions) positions positions-told i j h k
 
   -- ties by position
   pub positions-ties : (i j : ℕ) → i < j → j < length (firstKeys c)
       → getD (firstKeys c) (getD positions i 0 - 1) [] ≡ getD (firstKeys c) (getD positions j 0 - 1) []
       → getD positions i 0 < getD positions j 0
-  positions-ties i j h k =
-      rw (position-at i (omega arith), position-at j k) (meaning.keyPositions-ties (firstKeys c) i j h k)
+  positions-ties i j h k = positions-tied (firstKeys c) (c .positions) positions positions-told i j h k
 
   -- ---- "Keys stand in a lent store one after another, first list first, those that are the text copied too."
 

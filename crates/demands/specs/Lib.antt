@@ -1,3 +1,4 @@
+pub mod Bulk
 pub mod Demands
 pub mod Faults
 pub mod Lists

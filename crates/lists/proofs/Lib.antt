@@ -1,7 +1,6 @@
 pub mod Answers
 pub mod Ended
 pub mod Injective
-pub mod Keyed
 pub mod Refusing
 pub mod Sharing
 pub mod Steps

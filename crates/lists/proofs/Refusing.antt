@@ -11,7 +11,7 @@ use Rattle.terms.specs.Refusals.{namesMost, refusal, first}
 use Rattle.terms.specs.declared.Collation.{Collation}
 use Rattle.terms.specs.declared.Refusal.{Refusal}
 use Rattle.lists.specs.Names.{namesIn, listFault}
-use Rattle.lists.specs.Lists.{namesChecks, storeCheck}
+use Rattle.lists.specs.Lists.{namesChecks}
 use Rattle.lists.specs.Promises.{Counted, Lists, listingRefusal, ChecksLists}
 use Rattle.lists.specs.declared.names.NameCount.{NameCount}
 use Rattle.lists.specs.declared.names.Listing.{Listing}
@@ -91,11 +91,3 @@ listed-names n l e = (sym (l .refusal) ∙ ap listingRefusal e, l .counted n e)
 
 pub listed-refused : {list : List ℕ} {r : Listing} (y : Refusal) → Lists list r → r ≡ Refused y → listFault list ≡ some y
 listed-refused y l e = sym (l .refusal) ∙ ap listingRefusal e
-
--- ---- 8 of the store
-
-pub store-enough : {room needed : ℕ} → needed ≤ room → none ≡ storeCheck room needed
-store-enough {room} {needed} h = rw (le-ltb room needed h) refl
-
-pub store-short : {x : Refusal} {room needed : ℕ} → room < needed → x ≡ refusal 8 0 needed → some x ≡ storeCheck room needed
-store-short {x} {room} {needed} h e = rw (lt-ltb room needed h) (ap some e)

@@ -3,25 +3,23 @@
 use mathlib.Core.Path.{_≡_, refl, sym}
 use Prim.Native.Nat.{ℕ, zero, suc, _-_, _*_, _≤_}
 use native.Mathlib.Omega.{arith}
-use mathlib.Core.Bool.{Bool, true, false, _||_}
 use mathlib.Core.Option.{Option, none, some}
 use mathlib.Core.List.{List, [], _∷_}
 use lib.Dec.{ltb}
 use lib.ListN.{length}
 use borrow.Author.Tests.{ltb-false}
-use Rattle.terms.specs.Lists.{orElse, when, total}
+use Rattle.terms.specs.Lists.{orElse, total}
 use Rattle.terms.specs.Refusals.{namesMost, textMost, refusal, first}
 use Rattle.terms.specs.declared.Collation.{Collation}
 use Rattle.terms.specs.declared.Refusal.{Refusal}
-use Rattle.terms.proofs.Checks.{or-left, or-right, first-none}
+use Rattle.terms.proofs.Checks.{when-none, first-none}
 use Rattle.terms.proofs.Tests.{none-some}
-use Rattle.table.specs.Table.{Table}
-use Rattle.prepare.specs.Calls.{tableCheck, readyBy}
+use Rattle.prepare.specs.Calls.{tableCheck}
 use Rattle.records.specs.Items.{listRules, ofText, ofKey}
 use Rattle.records.specs.Reading.{Reading, end, stopped, item, readAt}
 use Rattle.records.proofs.Steps.{readAt-text}
 use Rattle.lists.specs.Names.{nameAnd, readOn, namesFrom, namesIn, listFault}
-use Rattle.lists.specs.Lists.{ListsCall, placed, namesChecks, storeCheck, arraysCheck, roomsRefusal}
+use Rattle.lists.specs.Lists.{ListsCall, placed, namesChecks, roomsRefusal}
 use Rattle.lists.specs.Lists.{listsRefusal, Shares, firstKeys, secondKeys}
 use Rattle.lists.specs.Promises.{nameOctets, octetsMost, Counted, Named, Listed, Reports}
 use Rattle.lists.specs.declared.names.NameCount.{NameCount}
@@ -58,10 +56,6 @@ placed-none : (place : ℕ) (o : Option Refusal) → placed place o ≡ none →
 placed-none place none e = refl
 placed-none place (some x) e = absurd (none-some (refusal (x .number) place (x .detail)) (sym e))
 
-when-none : (b : Bool) (x : Refusal) → when b x ≡ none → b ≡ false
-when-none true x e = absurd (none-some x (sym e))
-when-none false x e = refl
-
 module _ (o : Option Collation) (one two : List ℕ) (passed : none ≡ first (namesChecks o one two)) where
   pub first-listed : (n : NameCount) → Counted one n → Listed one n
   first-listed n c = record {
@@ -96,21 +90,6 @@ module _ (o : Option Collation) (one two : List ℕ) (passed : none ≡ first (n
     };
     octets = c .octets;
   }
-
--- the table was checked, where the number names a collation
-pub table-checked : (o : Option Collation) (k : Collation) (t : Table) → o ≡ some k → readyBy o (0 ∷ 0 ∷ []) t ≡ tableCheck o t
-table-checked o k t e = rw e refl
-
--- there is room
-pub store-room : {room needed : ℕ} → none ≡ storeCheck room needed → needed ≤ room
-store-room {room} {needed} e = ltb-false room needed (when-none (ltb room needed) (refusal 8 0 needed) (sym e))
-
-pub arrays-room : (one two names : ℕ) → none ≡ arraysCheck one two names → (names ≤ one) × (names ≤ two)
-arrays-room one two names e =
-    let neither = when-none (ltb one names || ltb two names) (refusal 8 0 names) (sym e) in (
-      ltb-false one names (or-left (ltb one names) (ltb two names) neither),
-      ltb-false two names (or-right (ltb one names) (ltb two names) neither),
-    )
 
 -- ---- the refusal of a call
 

@@ -3,19 +3,18 @@
 -- Assumes nothing.
 use mathlib.Core.Path.{_≡_}
 use Prim.Native.Nat.{ℕ}
-use mathlib.Core.Bool.{_||_}
 use mathlib.Core.Option.{Option, none, some}
 use mathlib.Core.List.{List, [], _∷_, _++_, map}
 use lib.Dec.{ltb}
 use lib.ListN.{length}
-use Rattle.terms.specs.Lists.{each, over}
+use Rattle.terms.specs.Lists.{over}
 use Rattle.terms.specs.Refusals.{namesMost, refusal, check, first, Outcome, refused, gives, answer}
 use Rattle.terms.specs.declared.Collation.{Collation}
 use Rattle.terms.specs.declared.Refusal.{Refusal}
-use Rattle.table.specs.Mapping.{Mapping}
 use Rattle.table.specs.Table.{Table, table, mappingOf}
-use Rattle.keys.specs.Keys.{keyOf}
 use Rattle.prepare.specs.Calls.{collationCheck, tableCheck}
+use Rattle.storing.specs.Stored.{keysUnder, joined}
+use Rattle.storing.specs.Rooms.{storeCheck, arraysCheck}
 use Rattle.partners.specs.Partners.{equalPairs, partnered, partnerOf, keyPositions}
 use Rattle.lists.specs.Names.{namesIn, listFault}
 use Rattle.lists.specs.declared.Shared.{Shared}
@@ -45,11 +44,6 @@ listsCall k one two entries pool s p q = record {
   positions = q;
 }
 
--- the keys of names; a number that is no collation's gives none
-abbrev pub keysUnder : Option Collation → Mapping → List (List ℕ) → List (List ℕ)
-keysUnder none m names = []
-keysUnder (some k) m names = map (keyOf k m) names
-
 -- the keys of the first list's names
 abbrev pub firstKeys : ListsCall → List (List ℕ)
 firstKeys c = keysUnder (c .collation) (mappingOf (c .table)) (namesIn (c .firstList))
@@ -57,10 +51,6 @@ firstKeys c = keysUnder (c .collation) (mappingOf (c .table)) (namesIn (c .first
 -- and of the second's
 abbrev pub secondKeys : ListsCall → List (List ℕ)
 secondKeys c = keysUnder (c .collation) (mappingOf (c .table)) (namesIn (c .secondList))
-
--- "Keys stand .. one after another"
-abbrev pub joined : List (List ℕ) → List ℕ
-joined ks = each (λ k. k) ks
 
 -- "first list first"
 abbrev pub allKeys : ListsCall → List ℕ
@@ -86,14 +76,6 @@ namesChecks k one two =
     ∷ countCheck 1 (length (namesIn one))
     ∷ countCheck 2 (length (namesIn two))
     ∷ []
-
--- "8 for the store (detail all keys together)"
-abbrev pub storeCheck : ℕ → ℕ → Option Refusal
-storeCheck room needed = check (ltb room needed) 8 0 needed
-
--- "8 for either array (detail the first list's names)"
-abbrev pub arraysCheck : ℕ → ℕ → ℕ → Option Refusal
-arraysCheck one two names = check (ltb one names || ltb two names) 8 0 names
 
 -- "8 for the store .., then 8 for either array"
 abbrev pub roomsRefusal : ListsCall → Option Refusal

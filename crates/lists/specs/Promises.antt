@@ -1,11 +1,11 @@
 -- What the contracts of the inner functions say with the definitions of the other files.
 -- Assumes nothing.
 use mathlib.Core.Path.{_≡_}
-use Prim.Native.Nat.{ℕ, _+_, _-_, _*_, _≤_}
+use Prim.Native.Nat.{ℕ, _-_, _*_, _≤_}
 use mathlib.Core.Option.{Option, none, some}
-use mathlib.Core.List.{List, [], _∷_, _++_}
+use mathlib.Core.List.{List, _++_}
 use lib.ListN.{length, take, drop}
-use Rattle.terms.specs.Lists.{total, over, putAt}
+use Rattle.terms.specs.Lists.{total, over}
 use Rattle.terms.specs.Refusals.{namesMost, textMost, first}
 use Rattle.terms.specs.declared.Collation.{Collation}
 use Rattle.terms.specs.declared.Refusal.{Refusal}
@@ -14,7 +14,8 @@ use Rattle.records.specs.Reading.{item, readAt}
 use Rattle.partners.specs.Promises.{Finds}
 use Rattle.partners.specs.declared.Totals.{Totals}
 use Rattle.lists.specs.Names.{namesIn, listFault}
-use Rattle.lists.specs.Lists.{joined, namesChecks}
+use Rattle.storing.specs.Stored.{joined, endsFrom}
+use Rattle.lists.specs.Lists.{namesChecks}
 use Rattle.lists.specs.declared.names.NameCount.{NameCount}
 use Rattle.lists.specs.declared.names.NamePlace.{NamePlace}
 use Rattle.lists.specs.declared.names.Listing.{Listing}
@@ -61,18 +62,6 @@ listsCheckRefusal (Stopped r) = some r
 pub record ChecksLists (o : Option Collation) (one two : List ℕ) (r : ListsCheck) : Type 0 where
   pub refusal : listsCheckRefusal r ≡ first (namesChecks o one two)
   pub known : (k : Collation) (n m : NameCount) → r ≡ Passed k n m → (o ≡ some k) × Counted one n × Counted two m
-
--- where the keys end that stand one after another from a place on
-unfoldable pub endsFrom : ℕ → List (List ℕ) → List ℕ
-endsFrom at [] = []
-endsFrom at (k ∷ ks) = (at + length k) ∷ endsFrom (at + length k) ks
-
--- the keys of a list's names were put into a store from a place on, and their ends into a row: where the last one ends
-pub record PutsKeys (ks : List (List ℕ)) (at : ℕ) (store : List ℕ) (index : ℕ) (ends : List ℕ) (last : ℕ)
-    (storeAfter endsAfter : List ℕ) : Type 0 where
-  pub upto : last ≡ at + length (joined ks)
-  pub stored : storeAfter ≡ putAt at (joined ks) store
-  pub ended : endsAfter ≡ putAt index (endsFrom at ks) ends
 
 -- keys were put at the start of a store, one after another, and their ends at the start of a row
 pub record PutsAll (ks : List (List ℕ)) (store ends storeAfter endsAfter : List ℕ) : Type 0 where

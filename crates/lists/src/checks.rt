@@ -2,7 +2,7 @@
 use crate::names::Listing;
 use crate::names::NameCount;
 use crate::names::count_names;
-use crate::storing::size_keys;
+use crate::putting::size_keys;
 use terms::Check;
 use terms::Collation;
 use terms::CollationName;
@@ -17,7 +17,8 @@ ghost use Rattle.terms.specs.Refusals.{refusal, checkRefusal};
 ghost use Rattle.table.specs.Table.{table, mappingOf};
 ghost use Rattle.keys.specs.Keys.{keyOf, tableUnder};
 ghost use Rattle.lists.specs.Names.{namesIn, listFault};
-ghost use Rattle.lists.specs.Lists.{joined, storeCheck, arraysCheck};
+ghost use Rattle.storing.specs.Stored.{joined};
+ghost use Rattle.storing.specs.Rooms.{storeCheck};
 ghost use Rattle.lists.specs.Promises.{nameOctets, octetsMost, ChecksLists};
 
 // What checking two lists comes to.
@@ -81,16 +82,6 @@ pub fn check_store(
         + size_keys(collation, second, entries, pool);
     if room < needed {
         return Check::Refused(refused(terms::REFUSED_LIST_ROOM, 0, needed as u64));
-    }
-    Check::Passed
-}
-
-// Whether both arrays have room for the first list's names: 8, with the number of these.
-pub fn check_arrays(partners: usize, positions: usize, names: usize) -> Check
-    ensures { λ r. ⌜ checkRefusal r ≡ arraysCheck partners positions names ⌝ }
-{
-    if partners < names || positions < names {
-        return Check::Refused(refused(terms::REFUSED_LIST_ROOM, 0, names as u64));
     }
     Check::Passed
 }

@@ -1,11 +1,11 @@
 // Calls on two lists that passed 1, 11 to 14 and 3 to 7: only 8 is left, and then the report is written.
 use super::Shared;
 use super::Totals;
-use crate::checks::check_arrays;
 use crate::checks::check_store;
 use crate::names::NameCount;
-use crate::storing::put_both;
+use crate::putting::put_both;
 use partners::find_partners;
+use storing::check_arrays;
 use terms::Check;
 use terms::Collation;
 ghost use mathlib.Core.Path.{_≡_};
@@ -16,7 +16,8 @@ ghost use lib.ListN.{length};
 ghost use Rattle.table.specs.Table.{table, mappingOf};
 ghost use Rattle.keys.specs.Keys.{keyOf, tableUnder};
 ghost use Rattle.lists.specs.Names.{namesIn};
-ghost use Rattle.lists.specs.Lists.{joined, listsCall, roomsRefusal, Shares};
+ghost use Rattle.storing.specs.Stored.{joined};
+ghost use Rattle.lists.specs.Lists.{listsCall, roomsRefusal, Shares};
 ghost use Rattle.lists.specs.Promises.{Named, Listed, Reports};
 
 // The most names of two lists.

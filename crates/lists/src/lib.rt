@@ -5,7 +5,7 @@
 mod checks;
 mod filling;
 mod names;
-mod storing;
+mod putting;
 
 use checks::ListsCheck;
 use checks::check_lists;

@@ -25,6 +25,29 @@ use Rattle.partners.proofs.Those.{those-most, length-those, length-numb
 use Rattle.partners.proofs.Scattered.{scattered, scattered-sorted, scattered-numbers}
 use Rattle.partners.proofs.Finding.{isFirst, total-map, map-map, map-same, first-sorted, count-row, none-row, lowest-row}
 
+-- the positions of keys in their order, by the numbers of the keys
+pub positions-by : (key : ℕ → List ℕ) (n : ℕ) → map suc (sorted (keyOrder key) (numbers 0 n)) ≡ keyPositions (keysFrom key 0 n)
+unfolding keyPositions keyOrder
+positions-by key n =
+    ap (map suc)
+    (sorted-same (keyOrder key) (keyOrder (λ x. getD ks x [])) (isFirst n) says (numbers 0 n) below
+    ∙ ap (λ (m : ℕ). sorted (keyOrder (λ x. getD ks x [])) (numbers 0 m)) (sym (length-map
+    (numbers 0 n) key ∙ length-numbers 0 n)))
+  where
+    ks : List (List ℕ)
+    ks = keysFrom key 0 n
+
+    here : (x : ℕ) → isFirst n x ≡ true → key x ≡ getD ks x []
+    here x h =
+        let same : 0 + x ≡ x = omega arith in
+        sym (numbers-at key [] 0 n x (ltb-true x n h) ∙ ap key same)
+
+    says : (x y : ℕ) → isFirst n x ≡ true → isFirst n y ≡ true → keyOrder key x y ≡ keyOrder (λ z. getD ks z []) x y
+    says x y h k = ap₂ (λ (a b : List ℕ). mayPrecede (orderOf a b) x y) (here x h) (here y k)
+
+    below : all (isFirst n) (numbers 0 n) ≡ true
+    below = let from : 0 + n ≡ n = omega arith in rw from at (numbers-most 0 n)
+
 -- a number put in front of those that were put
 putAt-front : (k : ℕ) (x : ℕ) (xs slice : List ℕ) → k < length slice
     → set (putAt (suc k) xs slice) k x ≡ putAt k (x ∷ xs) slice
@@ -169,25 +192,7 @@ module _ (key : ℕ → List ℕ) (middle m : ℕ) where
       ∙ sym (map-map (partnerOf qs) key (numbers 0 middle)))
 
   positions-found : map suc (those (isFirst middle) row) ≡ keyPositions ks
-  unfolding keyPositions keyOrder
-  positions-found =
-      ap (map suc)
-      (first-sorted key middle m
-      ∙ sorted-same (keyOrder key) (keyOrder (λ x. getD ks x [])) (isFirst middle) says (numbers 0 middle) below
-      ∙ ap (λ (n : ℕ). sorted (keyOrder (λ x. getD ks x [])) (numbers 0 n)) (sym (length-map
-      (numbers 0 middle) key ∙ length-numbers 0 middle)))
-    where
-      here : (x : ℕ) → isFirst middle x ≡ true → key x ≡ getD ks x []
-      here x h =
-          let same : 0 + x ≡ x = omega arith in
-          sym (numbers-at key [] 0 middle x (ltb-true x middle h) ∙ ap key same)
-
-      says : (x y : ℕ) → isFirst middle x ≡ true → isFirst middle y ≡ true
-          → keyOrder key x y ≡ keyOrder (λ z. getD ks z []) x y
-      says x y h k = ap₂ (λ (a b : List ℕ). mayPrecede (orderOf a b) x y) (here x h) (here y k)
-
-      below : all (isFirst middle) (numbers 0 middle) ≡ true
-      below = let from : 0 + middle ≡ middle = omega arith in rw from at (numbers-most 0 middle)
+  positions-found = ap (map suc) (first-sorted key middle m) ∙ positions-by key middle
 
   pub walked-done : {partners₀ positions₀ partners positions : List ℕ} {free pairs names : ℕ} (t : Totals)
       → Walked key middle row partners₀ positions₀ (those (isFirst middle) row) free pairs names partners positions

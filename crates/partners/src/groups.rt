@@ -73,7 +73,7 @@ fn group_after(
 }
 
 // Whether there is a number after a place, and it has the same key.
-fn repeats_key(store: &[u8], ends: &[usize], row: &[u32], i: usize) -> bool
+pub fn repeats_key(store: &[u8], ends: &[usize], row: &[u32], i: usize) -> bool
     requires { ⌜ Ends (now store) (now ends) ⌝ }
     requires { ⌜ allNumbered (now ends) (now row) ≡ true ⌝ }
     requires { ⌜ i < length (now row) ⌝ }

@@ -8,6 +8,7 @@ mod groups;
 
 use groups::Group;
 use groups::group_at;
+pub use groups::repeats_key;
 ghost use mathlib.Core.Path.{_≡_};
 ghost use mathlib.Core.Bool.{cond};
 ghost use Prim.Native.Nat.{_<_, _≤_};
@@ -45,9 +46,21 @@ pub fn find_partners(
     ensures { λ r. ⌜ FindsIn (now (store .entry)) (now (ends .entry)) middle (now (partners .entry)) (now (positions .entry)) r
         (now (partners .exit)) (now (positions .exit)) ⌝ }
 {
+    sort_numbers(store, ends, row, spare);
+    walk(store, ends, middle, row, partners, positions)
+}
+
+// Fills a row with the numbers of all keys, in their order. The spare row is written over.
+pub fn sort_numbers(store: &[u8], ends: &[usize], row: &mut [u32], spare: &mut [u32])
+    requires { ⌜ Ends (now store) (now ends) ⌝ }
+    requires { ⌜ length (now ends) < 0x100000000 ⌝ }
+    requires { ⌜ length (now row) ≡ length (now ends) ⌝ }
+    requires { ⌜ length (now row) ≤ length (now spare) ⌝ }
+    ensures { λ _. ⌜ now (row .exit) ≡ sorted (keyOrder (keyIn (now (store .entry)) (now (ends .entry))))
+        (numbers 0 (length (now (ends .entry)))) ⌝ }
+{
     number(row);
     sorting::sort(store, ends, row, spare);
-    walk(store, ends, middle, row, partners, positions)
 }
 
 // Fills a row with its own places.
@@ -64,7 +77,7 @@ fn number(row: &mut [u32])
 
 // The totals of two lists by their sorted row, with partners and positions stored. It is walked from its end: the first list's
 // numbers with a key come before the second's, so that the second's have been counted when one of the first's is reached.
-fn walk(
+pub fn walk(
     store: &[u8],
     ends: &[usize],
     middle: usize,

@@ -147,3 +147,7 @@ prepares-ready e f h = record { call = called-ready e f (h .call); most = h .mos
 pub prepares-refused : {o : Option Collation} {t : Table} {l : Lent} {x : Refusal} → readyRefusal (call o t (l ∷ [])) ≡ some x
     → Prepares (call o t (l ∷ [])) (Unprepared x) (l .buffer)
 prepares-refused e = record { call = called-refused e refl; most = zero-le }
+
+-- of a call on empty texts only the table's check is left, where the number names a collation
+pub table-checked : (o : Option Collation) (k : Collation) (t : Table) → o ≡ some k → readyBy o (0 ∷ 0 ∷ []) t ≡ tableCheck o t
+table-checked o k t e = rw e refl

@@ -49,6 +49,10 @@ lineMost = 512
 abbrev pub namesMost : ℕ
 namesMost = 1024
 
+-- the most octet strings in one slice that are told by their ends (14)
+abbrev pub endsMost : ℕ
+endsMost = 4294967295
+
 -- ---- refusals
 
 -- a refusal by its number, place and detail

@@ -75,6 +75,9 @@ pub const LINE_MOST: usize = 512;
 // The most names of a list.
 pub const NAMES_MOST: usize = 1024;
 
+// The most octet strings in one slice that are told by their ends.
+pub const ENDS_MOST: usize = 4294967295;
+
 // The kinds of record.
 pub const KIND_TEXT: u32 = 1;
 
@@ -132,6 +135,16 @@ pub const REFUSED_NO_ROOM: u32 = 27;
 pub const REFUSED_STATE: u32 = 28;
 
 pub const REFUSED_FIELD_12: u32 = 29;
+
+// 14 again: more ends of octet strings than are taken.
+pub const REFUSED_END_COUNT: u32 = 14;
+
+pub const REFUSED_END: u32 = 36;
+
+pub const REFUSED_FIRST_COUNT: u32 = 37;
+
+// 8 again: no room for the keys of many texts, for their ends or validity, or for the numbers of keys.
+pub const REFUSED_MANY_ROOM: u32 = 8;
 
 // Whether a number is a scalar code point.
 pub fn is_scalar(c: u32) -> bool

@@ -12,7 +12,8 @@ use Rattle.table.specs.Table.{table}
 use Rattle.lists.specs.Lists.{ListsCall, listsCall, namesChecks}
 use Rattle.lists.specs.Promises.{Counted, listsCheckRefusal}
 use Rattle.lists.specs.declared.names.NameCount.{NameCount}
-use Rattle.lists.proofs.Sharing.{table-checked, first-listed, second-listed, refused-names, refused-table, refused-rooms}
+use Rattle.prepare.proofs.CallRefusals.{table-checked}
+use Rattle.lists.proofs.Sharing.{first-listed, second-listed, refused-names, refused-table, refused-rooms}
 use Rattle.lists.proofs.Sharing.{shares-refused, shares-same}
 use Rattle.lists.proofs.find_shared.Statement.{statement}
 use Rattle.lists.proofs.find_shared.Tie as tie

@@ -1,64 +1,22 @@
 -- `partners::find_partners` meets its contract: the numbers of all keys, sorted, are the row that the walk asks for.
 -- Assumes nothing.
-use mathlib.Core.Path.{_≡_, ap, _∙_}
-use Prim.Native.Nat.{ℕ, _+_}
-use native.Mathlib.Omega.{arith}
-use mathlib.Core.Bool.{true}
-use lib.Dec.{ltb}
-use lib.ListN.{length}
 use borrow.Author.Needs.{needs}
-use Rattle.terms.specs.Lists.{all}
-use Rattle.sorting.specs.Sorted.{sorted, numbers}
-use Rattle.sorting.specs.KeyOrder.{keyIn, keyOrder}
-use Rattle.partners.proofs.Those.{numbers-most, length-numbers}
 use Rattle.partners.proofs.find_partners.Statement.{statement}
 use Rattle.partners.proofs.find_partners.Tie as tie
 
--- the row was filled with the numbers of all keys
-numbered : (c : tie.After-number) → c .number .last .0 ≡ numbers 0 (length (c .before .before .before .before .before
-    .before .before .before .args .ends .now))
-numbered c = c .number .ensures ∙ ap (numbers 0) (c .before .before .before .before .before .before .before
-    .before .pre .1 .1 .1 .0)
-
-below : (n : ℕ) → all (λ x. ltb x n) (numbers 0 n) ≡ true
-below n = let from : 0 + n ≡ n = omega arith in rw from at (numbers-most 0 n)
-
-number-requires : tie.Need-number-requires
-number-requires c κs = search needs
-
-sort-requires : tie.Need-sort-requires
-sort-requires c κs =
-    let s = c .before .before .before .before .before .before .before .before .before .before .before .before in
-    let called = c .before .before .before .before in
-    let filled : called .number .last .0 ≡ numbers 0 (length (s .args .ends .now)) = numbered called in (
-      s .pre .0,
-      (
-        ap (all (λ x. ltb x (length (s .args .ends .now)))) filled ∙ below (length (s .args .ends .now)),
-        omega (
-          arith,
-          ap length filled,
-          length-numbers 0 (length (s .args .ends .now)),
-          s .pre .1 .1 .1 .0,
-          s .pre .1 .1 .1 .1 .0,
-        ),
-      ),
-    )
+sort-numbers-requires : tie.Need-sort-numbers-requires
+sort-numbers-requires c κs = search needs
 
 walk-requires : tie.Need-walk-requires
 walk-requires c κs =
-    let s = c .before .before .before .before .before .before .before .before .before .before .before .before .before
-    .before .before .before .before .before .before .before in
-    let order = keyOrder (keyIn (s .args .store .now) (s .args .ends .now)) in (
+    let sorted = c .before .before .before .before .before .before .before in
+    let s = sorted .before .before .before .before .before .before .before .before .before in (
       s .pre .0,
       (
         s .pre .1 .0,
         (
           s .pre .1 .1 .0,
-          (
-            c .before .before .before .before .before .before .before .sort .ensures ∙ ap (sorted order) (numbered (c
-                .before .before .before .before .before .before .before .before .before .before .before .before)),
-            (s .pre .1 .1 .1 .1 .1 .0, s .pre .1 .1 .1 .1 .1 .1),
-          ),
+          (sorted .sort-numbers .ensures, (s .pre .1 .1 .1 .1 .1 .0, s .pre .1 .1 .1 .1 .1 .1)),
         ),
       ),
     )
@@ -82,8 +40,7 @@ pub find-partners-spec : {M : Type 1} → statement M
 find-partners-spec =
     tie.close
     (tie.spec
-    number-requires
-    sort-requires
+    sort-numbers-requires
     walk-requires
     same-length
     same-length-2

@@ -12,11 +12,11 @@ use Rattle.table.specs.Table.{table, mappingOf}
 use Rattle.keys.specs.Keys.{keyOf}
 use Rattle.keys.proofs.Bounds.{key-within}
 use Rattle.lists.specs.Names.{namesIn}
-use Rattle.lists.specs.Lists.{joined}
+use Rattle.storing.specs.Stored.{joined}
 use Rattle.lists.specs.Promises.{nameOctets}
-use Rattle.lists.proofs.Walks.{joined-most}
+use Rattle.storing.proofs.Ended.{joined-most}
 use Rattle.lists.proofs.Ended.{long-both}
-use Rattle.lists.proofs.Refusing.{store-enough, store-short}
+use Rattle.storing.proofs.Room.{store-enough, store-short}
 use Rattle.lists.proofs.checks.check_store.Statement.{statement}
 use Rattle.lists.proofs.checks.check_store.Tie as tie
 

@@ -6,7 +6,8 @@ use mathlib.Core.Option.{none, some}
 use borrow.Author.Needs.{needs}
 use Rattle.terms.specs.Refusals.{checkRefusal}
 use Rattle.lists.specs.Lists.{ListsCall, listsCall, roomsRefusal}
-use Rattle.lists.proofs.Sharing.{octets-most, store-room, arrays-room, shares-refused, shares-found}
+use Rattle.storing.proofs.Room.{store-room, arrays-room}
+use Rattle.lists.proofs.Sharing.{octets-most, shares-refused, shares-found}
 use Rattle.lists.proofs.filling.fill_lists.Statement.{statement}
 use Rattle.lists.proofs.filling.fill_lists.Tie as tie
 

@@ -11,8 +11,9 @@ use borrow.Author.Needs.{needs}
 use Rattle.table.specs.Table.{table, mappingOf}
 use Rattle.keys.specs.Keys.{keyOf}
 use Rattle.lists.specs.Names.{namesIn}
-use Rattle.lists.specs.Promises.{endsFrom}
-use Rattle.lists.proofs.Ended.{length-endsFrom, ends-taken, ends-stand, reports-found}
+use Rattle.storing.specs.Stored.{endsFrom}
+use Rattle.storing.proofs.Ended.{length-endsFrom, ends-stand}
+use Rattle.lists.proofs.Ended.{ends-taken, reports-found}
 use Rattle.lists.proofs.filling.report.Statement.{statement}
 use Rattle.lists.proofs.filling.report.Tie as tie
 
