@@ -1,5 +1,5 @@
 /* The C interface as a C program sees it: every call of both headers, over table T of document 01, and on records and lists by
- * document 02. Exits 1 at the first answer that is not the documents'. */
+ * document 02, and on many texts by the header. Exits 1 at the first answer that is not the documents'. */
 #include "mundeziwa.h"
 #include "mundeziwa_accepted.h"
 #include <stdio.h>
@@ -154,6 +154,10 @@ static void expect_numbers(const char *what, const uint32_t *numbers, const uint
     expect_octets(what, (const uint8_t *)numbers, (const char *)expected, n * sizeof *numbers);
 }
 
+static void expect_sizes(const char *what, const size_t *sizes, const size_t *expected, size_t n) {
+    expect_octets(what, (const uint8_t *)sizes, (const char *)expected, n * sizeof *sizes);
+}
+
 static void find_shared_names(void) {
     uint8_t store[8] = {0, 0, 0, 0, 0, 0, 0, 9};
     uint32_t partners[4] = {9, 9, 9, 9}, positions[4] = {9, 9, 9, 9};
@@ -198,6 +202,80 @@ static void refuse_lists(void) {
     expect_numbers("positions after refusals", positions, (const uint32_t[]){9, 9, 9}, COUNT(positions));
 }
 
+/* Five texts, the fourth of them broken, and an octet that belongs to none. */
+#define MANY TEXT("z" "\xC3\xA9" "Z" "\xC3" "z" "?"), ends, COUNT(ends)
+static const size_t ends[] = {1, 3, 4, 5, 6};
+
+static void prepare_many_texts(void) {
+    uint8_t store[8] = {0, 0, 0, 0, 0, 0, 0, 9}, valid[6] = {9, 9, 9, 9, 9, 9};
+    size_t key_ends[6] = {9, 9, 9, 9, 9, 9};
+    uint64_t answer[4];
+#define LEFT store, sizeof store, key_ends, COUNT(key_ends), valid, sizeof valid
+    mz_prepare_many(MZ_UNICODE_CASEMAP, MANY, TABLE, LEFT, answer);
+    EXPECT("mz_prepare_many", answer, 0, 0, 0, 7);
+    expect_octets("mz_prepare_many's store", store, "Z\x45\xCC\x81Z\xC3Z\x09", sizeof store);
+    expect_sizes("mz_prepare_many's key ends", key_ends, (const size_t[]){1, 4, 5, 6, 7, 9}, COUNT(key_ends));
+    expect_octets("mz_prepare_many's valid", valid, "\1\1\1\0\1\x09", sizeof valid);
+    mz_prepare_many(MZ_OCTET, TEXT(""), ends, 0, entries, 3, pool, 0, store, 0, key_ends, 0, valid, 0, answer);
+    EXPECT("mz_prepare_many of no texts, over a table that isn't read", answer, 0, 0, 0, 0);
+}
+
+static void refuse_many_texts(void) {
+    static const uint8_t long_text[MZ_TEXT_MOST + 1];
+    static const size_t falling[] = {1, 3, 2}, past[] = {2}, one[] = {sizeof long_text};
+    uint8_t store[7] = {9, 9, 9, 9, 9, 9, 9}, valid[5] = {9, 9, 9, 9, 9};
+    size_t key_ends[5] = {9, 9, 9, 9, 9};
+    uint64_t answer[4];
+    mz_prepare_many(4, TEXT("a"), past, COUNT(past), TABLE, LEFT, answer);
+    EXPECT("mz_prepare_many under collation 4", answer, MZ_REFUSED_COLLATION, 0, 0, 0);
+    mz_prepare_many(MZ_OCTET, TEXT("abc"), falling, COUNT(falling), TABLE, LEFT, answer);
+    EXPECT("mz_prepare_many with an end that falls", answer, MZ_REFUSED_END, 1, 2, 0);
+    mz_prepare_many(MZ_OCTET, TEXT("a"), past, COUNT(past), TABLE, LEFT, answer);
+    EXPECT("mz_prepare_many with an end past the octets", answer, MZ_REFUSED_END, 1, 0, 0);
+    mz_prepare_many(MZ_OCTET, long_text, sizeof long_text, one, COUNT(one), TABLE, LEFT, answer);
+    EXPECT("mz_prepare_many of a long text", answer, MZ_REFUSED_TEXT_LENGTH, 1, 0, 0);
+    mz_prepare_many(MZ_UNICODE_CASEMAP, TEXT(""), ends, 0, entries, 3, pool, 0, LEFT, answer);
+    EXPECT("mz_prepare_many over a faulty table", answer, MZ_REFUSED_TABLE_SIZE, 0, 0, 0);
+    mz_prepare_many(MZ_UNICODE_CASEMAP, MANY, TABLE, store, 6, key_ends, 4, valid, 5, answer);
+    EXPECT("mz_prepare_many with a short store", answer, MZ_REFUSED_MANY_ROOM, 0, 7, 0);
+    mz_prepare_many(MZ_UNICODE_CASEMAP, MANY, TABLE, store, 7, key_ends, 5, valid, 4, answer);
+    EXPECT("mz_prepare_many with a short slice", answer, MZ_REFUSED_MANY_ROOM, 0, 5, 0);
+    expect_octets("the store after refusals", store, "\x09\x09\x09\x09\x09\x09\x09", sizeof store);
+    expect_sizes("key ends after refusals", key_ends, (const size_t[]){9, 9, 9, 9, 9}, COUNT(key_ends));
+    expect_octets("valid after refusals", valid, "\x09\x09\x09\x09\x09", sizeof valid);
+}
+
+/* The keys z, b, z and z, a, z: the first three are the first list's. */
+#define KEYS_OF_TWO TEXT("zbzzaz"), ends_of_two, COUNT(ends_of_two)
+static const size_t ends_of_two[] = {1, 2, 3, 4, 5, 6};
+
+static void match_keys_of_two_lists(void) {
+    uint32_t row[7] = {9, 9, 9, 9, 9, 9, 9}, repeats[7] = {9, 9, 9, 9, 9, 9, 9}, partners[4] = {9, 9, 9, 9};
+    uint64_t answer[5];
+    mz_match_keys(KEYS_OF_TWO, 3, row, COUNT(row), repeats, COUNT(repeats), partners, COUNT(partners), answer);
+    EXPECT("mz_match_keys", answer, 0, 0, 0, 4, 2);
+    expect_numbers("mz_match_keys' row", row, (const uint32_t[]){5, 2, 1, 3, 4, 6, 9}, COUNT(row));
+    expect_numbers("mz_match_keys' repeats", repeats, (const uint32_t[]){0, 0, 1, 1, 1, 0, 9}, COUNT(repeats));
+    expect_numbers("mz_match_keys' partners", partners, (const uint32_t[]){1, 0, 1, 9}, COUNT(partners));
+}
+
+static void refuse_keys_of_two_lists(void) {
+    static const size_t falling[] = {1, 3, 2};
+    uint32_t row[6] = {9, 9, 9, 9, 9, 9}, repeats[6] = {9, 9, 9, 9, 9, 9}, partners[3] = {9, 9, 9};
+    uint64_t answer[5];
+    mz_match_keys(TEXT("abc"), falling, COUNT(falling), 4, row, 0, repeats, 0, partners, 0, answer);
+    EXPECT("mz_match_keys with an end that falls", answer, MZ_REFUSED_END, 1, 2, 0, 0);
+    mz_match_keys(KEYS_OF_TWO, 7, row, 0, repeats, 0, partners, 0, answer);
+    EXPECT("mz_match_keys with too many first names", answer, MZ_REFUSED_FIRST_COUNT, 0, 6, 0, 0);
+    mz_match_keys(KEYS_OF_TWO, 3, row, 6, repeats, 5, partners, 2, answer);
+    EXPECT("mz_match_keys with short repeats", answer, MZ_REFUSED_MANY_ROOM, 0, 6, 0, 0);
+    mz_match_keys(KEYS_OF_TWO, 3, row, 6, repeats, 6, partners, 2, answer);
+    EXPECT("mz_match_keys with short partners", answer, MZ_REFUSED_MANY_ROOM, 0, 3, 0, 0);
+    expect_numbers("the row after refusals", row, (const uint32_t[]){9, 9, 9, 9, 9, 9}, COUNT(row));
+    expect_numbers("repeats after refusals", repeats, (const uint32_t[]){9, 9, 9, 9, 9, 9}, COUNT(repeats));
+    expect_numbers("partners after refusals", partners, (const uint32_t[]){9, 9, 9}, COUNT(partners));
+}
+
 int main(void) {
     check_interface();
     check_tables();
@@ -208,6 +286,10 @@ int main(void) {
     read_records();
     find_shared_names();
     refuse_lists();
+    prepare_many_texts();
+    refuse_many_texts();
+    match_keys_of_two_lists();
+    refuse_keys_of_two_lists();
     puts("the C interface answers as the documents say");
     return 0;
 }

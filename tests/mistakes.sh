@@ -113,4 +113,6 @@ mistake_record_129_times_taken 6
 mistake_record_8_writes_what_fits 6
 mistake_list_last_partner 7
 mistake_list_1025_names_taken 7
+mistake_many_ties_reversed 8
+mistake_many_8_key_ends_before_store 8
 END

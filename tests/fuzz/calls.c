@@ -5,7 +5,7 @@
 #include <string.h>
 
 /* Counters that libFuzzer reads beside those of the code: it keeps an input that raises a new one. */
-#define KINDS 32
+#define KINDS 36
 #define NUMBERS 64
 __attribute__((section("__libfuzzer_extra_counters"))) static uint8_t counters[KINDS * NUMBERS];
 
@@ -50,6 +50,8 @@ int LLVMFuzzerTestOneInput(const uint8_t *data, size_t size) {
         fuzz_records(data + 1, size - 1);
     else if (data[0] % 8 == 6)
         fuzz_lists(data + 1, size - 1);
+    else if (data[0] % 8 == 7)
+        fuzz_many(data + 1, size - 1);
     else if (data[0] % 4 == 0)
         fuzz_lines(data + 1, size - 1);
     else

@@ -36,4 +36,6 @@ void fuzz_records(const uint8_t *data, size_t size);
 
 void fuzz_lists(const uint8_t *data, size_t size);
 
+void fuzz_many(const uint8_t *data, size_t size);
+
 #endif

@@ -1,7 +1,8 @@
 /* What the fuzzer gives, cut into the arguments of calls.
  *
  * Octet 0 says what the rest is: 0 modulo 4 lines of UnicodeData.txt (lines.c), 5 modulo 8 records (records.c), 6 modulo 8 two
- * lists over a table (lists.c), else texts over a table (texts.c). Whatever the octets are, they are some case; what is left out at the end counts as 0.
+ * lists over a table (lists.c), 7 modulo 8 many texts over a table (many.c), else texts over a table (texts.c). Whatever the
+ * octets are, they are some case; what is left out at the end counts as 0.
  *
  * NUMBERS of a table are one octet each: below 80 hex the number itself; 80 to BF the marks 0300 to 033F; C0 to EF the code point of an
  * entry (C0 the first); F0 and two octets; F1 and four octets; F2 to FF numbers at which some rule changes.
@@ -13,7 +14,10 @@
  * each: below F0 hex the number itself, else one at which some rule changes (records.c).
  *
  * LISTS are a collation, a table, the lengths of the store and of both arrays, and the records of both lists. Texts that were
- * taken before can be taken again, so that names are equal (lists.c).
+ * taken before can be taken again, so that names are equal (names.h, lists.c).
+ *
+ * MANY texts are a collation, a table, which end is put elsewhere and where, how many octets follow the last text, how many names
+ * the first list has, the lengths of all six slices that the two calls write, and the texts, each a name (names.h, many.c).
  *
  * Of the stored inputs (corpus), those with a name were written by hand; each found_NN, which libFuzzer found, raises some counter that no
  * other input does. */

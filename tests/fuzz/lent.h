@@ -14,7 +14,10 @@ enum memory {
 };
 
 /* Each argument of a call has pages of its own. */
-enum slot { FIRST, SECOND, ENTRIES, POOL, FIRST_KEY, SECOND_KEY, RECORDS, STORE, PARTNERS, POSITIONS, ANSWER, SLOTS };
+enum slot {
+    FIRST, SECOND, ENTRIES, POOL, FIRST_KEY, SECOND_KEY, RECORDS, STORE, PARTNERS, POSITIONS,
+    OCTETS, ENDS, KEY_ENDS, VALID, ROW, REPEATS, ANSWER, SLOTS
+};
 
 /* The most octets that a slice may have. */
 #define LENT_MOST ((size_t)1 << 20)

@@ -1,13 +1,12 @@
 /* mz_find_shared, in both forms: two lists under a collation, over a table, with a store and two arrays. What other calls say of
  * the lists' records, of the table and of each name is what the report must agree with. */
 #include "expect.h"
-#include "input.h"
 #include "mundeziwa.h"
 #include "mundeziwa_accepted.h"
+#include "names.h"
 #include <string.h>
 
 #define LIST_ROOM 65536    /* octets that a list of a case may have */
-#define STOCK_MOST 32      /* names that a list may take again */
 #define PAIRS_COMPARED 64  /* the most pairs of names that are given to mz_equal, each by itself */
 
 /* What becomes known of two lists; the kinds that `note` is given. */
@@ -34,11 +33,6 @@ struct lists {
     struct table table;
     struct list list[2];
     struct rooms rooms;
-};
-
-/* Where octets stand: a name's in its list, a key's among all keys. */
-struct part {
-    size_t start, length;
 };
 
 /* What other calls say of two lists. */
@@ -70,29 +64,10 @@ static void put_record(struct list *list, uint8_t kind, const struct text *body)
     put(list, record, sizeof head + body->length);
 }
 
-/* The texts that were taken so far, to be taken again. */
-struct stock {
-    struct text texts[STOCK_MOST];
-    size_t count;
-};
-
-/* A record: an octet below C0 hex and a text of that length; C0 to DF an earlier text again; E0 to EF a text (input.h); from F0
- * on the record of another kind, an octet, with a text. */
+/* A record: a name (names.h) or, where its octet is F0 hex or more, the record of another kind, an octet, with a text. */
 static void take_record(struct input *input, struct list *list, struct stock *stock) {
-    static struct text text;
     uint8_t octet = take_octet(input), kind = octet < 0xF0 ? MZ_KIND_TEXT : take_octet(input);
-    if (octet >= 0xC0 && octet < 0xE0) {
-        text.length = 0;
-        put_record(list, kind, octet - 0xC0u < stock->count ? &stock->texts[octet - 0xC0] : &text);
-        return;
-    }
-    if (octet < 0xC0)
-        take_octets(input, octet, &text);
-    else
-        take_text(input, &text);
-    put_record(list, kind, &text);
-    if (stock->count < STOCK_MOST)
-        stock->texts[stock->count++] = text;
+    put_record(list, kind, take_name(input, octet, stock));
 }
 
 /* A list: an octet below E0 hex and that many records modulo 16; E0 to EF 1,016 to 1,031 records, which repeat the next four; from
@@ -117,14 +92,6 @@ static void take_list(struct input *input, struct list *list, struct stock *stoc
     text.length = 0;
     for (size_t at = 0; at < ends % count; at++)
         put_record(list, MZ_KIND_TEXT, &text);
-}
-
-/* A length: the most that can be needed, just enough, one less, or up to 63. */
-static size_t take_room(struct input *input, size_t most, size_t needed) {
-    uint8_t octet = take_octet(input);
-    const size_t rooms[] = {most, needed, needed > 0 ? needed - 1 : 0, octet / 4};
-    size_t room = rooms[octet % 4];
-    return room < LENT_MOST ? room : LENT_MOST;
 }
 
 /* ---- what other calls say */
@@ -166,10 +133,6 @@ static void learn_keys(const struct lists *lists, int which, struct known *known
     }
 }
 
-static int is_collation(uint32_t collation) {
-    return collation >= MZ_OCTET && collation <= MZ_UNICODE_CASEMAP;
-}
-
 static void learn(const struct lists *lists, struct known *known) {
     const struct table *table = &lists->table;
     mz_check_table(table->entries, table->entries_length, table->pool, table->pool_length, known->verdict);
@@ -209,13 +172,6 @@ static void refusal_due(const struct lists *lists, const struct known *known, ui
 
 /* ---- what must hold of a report */
 
-/* How two keys are ordered, by their octets: below 0, 0, above 0. */
-static int order_of(const struct known *known, struct part one, struct part other) {
-    size_t common = one.length < other.length ? one.length : other.length;
-    int order = common > 0 ? memcmp(known->octets + one.start, known->octets + other.start, common) : 0;
-    return order != 0 ? order : (one.length > other.length) - (one.length < other.length);
-}
-
 /* mz_equal says of two names what their keys say. */
 static void expect_equality(const struct lists *lists, const struct known *known, size_t one, size_t other, int is_equal) {
     static uint8_t keys[2][MZ_KEY_PER_OCTET_MOST * MZ_TEXT_MOST];
@@ -235,7 +191,7 @@ static void expect_pairs(const struct lists *lists, const struct known *known, c
     for (size_t one = 0; one < known->counts[0]; one++) {
         uint32_t lowest = 0;
         for (size_t other = known->counts[1]; other > 0; other--) {
-            int is_equal = order_of(known, known->keys[0][one], known->keys[1][other - 1]) == 0;
+            int is_equal = order_of(known->octets, known->keys[0][one], known->keys[1][other - 1]) == 0;
             if (is_small)
                 expect_equality(lists, known, one, other - 1, is_equal);
             pairs += (uint64_t)is_equal;
@@ -258,16 +214,9 @@ static void expect_positions(const struct known *known, const uint32_t *position
         seen[positions[at]] = 1;
         if (at == 0)
             continue;
-        int order = order_of(known, known->keys[0][positions[at - 1] - 1], known->keys[0][positions[at] - 1]);
+        int order = order_of(known->octets, known->keys[0][positions[at - 1] - 1], known->keys[0][positions[at] - 1]);
         EXPECT(order < 0 || (order == 0 && positions[at - 1] < positions[at]));
     }
-}
-
-/* A lent slice, of which only the first octets may be other than before. */
-static void expect_kept_after(struct lent lent, size_t written) {
-    EXPECT(written <= lent.size);
-    if (lent.size > written)
-        EXPECT(memcmp((uint8_t *)lent.at + written, pattern + written, lent.size - written) == 0);
 }
 
 /* The slices that a call writes. */

@@ -96,6 +96,40 @@ extern "C" {
         position: u64,
         answer: *mut [u64; 4],
     );
+
+    pub fn mz_prepare_many(
+        collation: u32,
+        octets: *const u8,
+        octets_length: usize,
+        ends: *const usize,
+        ends_length: usize,
+        entries: *const u32,
+        entries_length: usize,
+        pool: *const u32,
+        pool_length: usize,
+        store: *mut u8,
+        store_length: usize,
+        key_ends: *mut usize,
+        key_ends_length: usize,
+        valid: *mut u8,
+        valid_length: usize,
+        answer: *mut [u64; 4],
+    );
+
+    pub fn mz_match_keys(
+        store: *const u8,
+        store_length: usize,
+        ends: *const usize,
+        ends_length: usize,
+        first_names: usize,
+        row: *mut u32,
+        row_length: usize,
+        repeats: *mut u32,
+        repeats_length: usize,
+        partners: *mut u32,
+        partners_length: usize,
+        answer: *mut [u64; 5],
+    );
 }
 
 /// Declares calls on one text.

@@ -1,15 +1,26 @@
-//! Room for keys. The calls that answer no key still need it; it is kept between calls, since names come by the thousand.
+//! Room for keys. The calls that answer no key still need it: that for two texts is kept between calls, since names come by the
+//! thousand; that for all keys of a list is not.
 use crate::{KEY_PER_OCTET_MOST, TEXT_MOST};
 use std::cell::Cell;
 
+/// The longest store that is lent before it is known how long the keys are. It holds any keys of 128 KiB of names, and those of
+/// longer lists mostly; what is not used of it takes no memory.
+const STORE_MOST_AT_FIRST: usize = 16 << 20;
+
+/// A store for the keys of names that have so many octets together: mostly long enough. Where it is not, the refusal names the
+/// length.
+pub fn new_store(octets: usize) -> Vec<u8> {
+    Vec::with_capacity(octets.saturating_mul(KEY_PER_OCTET_MOST).min(STORE_MOST_AT_FIRST))
+}
+
 /// Room for the keys of two texts.
-pub struct Keys {
+pub struct KeyBuffers {
     pub first: Vec<u8>,
     pub second: Vec<u8>,
 }
 
-impl Keys {
-    const NONE: Keys = Keys { first: Vec::new(), second: Vec::new() };
+impl KeyBuffers {
+    const NONE: KeyBuffers = KeyBuffers { first: Vec::new(), second: Vec::new() };
 
     /// Makes each buffer long enough for the key of any text that is as long as its own.
     pub fn make_room(&mut self, first: &[u8], second: &[u8]) {
@@ -24,14 +35,14 @@ impl Keys {
 }
 
 thread_local! {
-    static KEYS: Cell<Keys> = const { Cell::new(Keys::NONE) };
+    static BUFFERS: Cell<KeyBuffers> = const { Cell::new(KeyBuffers::NONE) };
 }
 
 /// Does some work with the thread's buffers or, while the thread ends and has none any more, with new ones.
-pub fn with_keys<R>(work: impl FnOnce(&mut Keys) -> R) -> R {
-    let mut keys = KEYS.try_with(|kept| kept.replace(Keys::NONE)).unwrap_or(Keys::NONE);
+pub fn with_keys<R>(work: impl FnOnce(&mut KeyBuffers) -> R) -> R {
+    let mut keys = BUFFERS.try_with(|kept| kept.replace(KeyBuffers::NONE)).unwrap_or(KeyBuffers::NONE);
     let result = work(&mut keys);
     // Nothing is lost if the thread keeps none: the buffers are freed here.
-    let _ = KEYS.try_with(|kept| kept.set(keys));
+    let _ = BUFFERS.try_with(|kept| kept.set(keys));
     result
 }

@@ -32,7 +32,25 @@
 //! # Ok::<(), Box<dyn std::error::Error>>(())
 //! ```
 //!
-//! A join of any number of names, by their keys:
+//! Lists of any length, and which of all their names are one:
+//!
+//! ```
+//! use mundeziwa::{Collation, TableBuilder};
+//!
+//! # let lines = "0065;LATIN SMALL LETTER E;Ll;0;L;;;;;N;;;0045;;0045\n\
+//! #     00C9;LATIN CAPITAL LETTER E WITH ACUTE;Lu;0;L;0045 0301;;;;N;;;;00E9;\n\
+//! #     00E9;LATIN SMALL LETTER E WITH ACUTE;Ll;0;L;0065 0301;;;;N;;;00C9;;00C9\n";
+//! # let table = TableBuilder::read(lines.as_bytes())?.table()?;
+//! let (held_back, fitted) = (["F", "e\u{301}"], ["\u{c9}", "E", "\u{e9}"]);
+//! let matches = table.match_lists(Collation::UnicodeCasemap, held_back, fitted)?;
+//! assert_eq!((matches.names_with_partner(), matches.equal_pairs()), (1, 2));
+//! for group in matches.groups().filter(|group| group.is_shared()) {
+//!     assert!(group.first().eq([1]) && group.second().eq([0, 2]));
+//! }
+//! # Ok::<(), Box<dyn std::error::Error>>(())
+//! ```
+//!
+//! A join by the keys, which may be kept, in a map or a file:
 //!
 //! ```
 //! use mundeziwa::{Collation, Refusal, TableBuilder};
@@ -88,6 +106,7 @@ mod builder;
 mod ffi;
 mod keys;
 mod lists;
+mod many;
 mod reading;
 pub mod records;
 mod refusal;
@@ -96,6 +115,7 @@ mod table;
 
 pub use builder::TableBuilder;
 pub use lists::{ListError, Shared};
+pub use many::{Group, Keys, Matches};
 pub use reading::ReadError;
 pub use refusal::Refusal;
 pub use refusal_kind::RefusalKind;
@@ -127,6 +147,9 @@ pub const TEXT_MOST: usize = 4096;
 
 /// The most names that a list is taken with.
 pub const NAMES_MOST: usize = 1024;
+
+/// The most texts or keys that one call takes.
+pub const ENDS_MOST: usize = 4_294_967_295;
 
 /// The most octets of a key for each octet of its text.
 pub const KEY_PER_OCTET_MOST: usize = 128;

@@ -1,6 +1,7 @@
 //! Which names two lists share.
+use crate::keys::new_store;
 use crate::records::write_text;
-use crate::{ffi, Collation, Refusal, RefusalKind, Table, KEY_PER_OCTET_MOST, NAMES_MOST};
+use crate::{ffi, Collation, Refusal, RefusalKind, Table, NAMES_MOST};
 
 mod error;
 
@@ -8,10 +9,6 @@ pub use error::ListError;
 
 /// The fewest octets of a record: its length and its kind.
 const RECORD_LEAST: usize = 6;
-
-/// The longest store that is lent before it is known how long the keys are. It holds any keys of 128 KiB of names, and those of
-/// longer lists mostly; what is not used of it takes no memory.
-const STORE_MOST_AT_FIRST: usize = 16 << 20;
 
 /// Which names two lists share, as [`Table::shared`] answers it. Names are told by their index in their list, counted from 0.
 /// (The C interface counts them from 1.)
@@ -165,8 +162,8 @@ impl Table {
     /// many have one, and the order of the first list's names.
     ///
     /// A list is anything that can be iterated over and holds octets: an array or a slice of `&str`, a `&Vec<String>`, an
-    /// iterator. At most [`NAMES_MOST`] names are taken in each. A name is never refused for its content. The call keeps all keys
-    /// in memory while it lasts.
+    /// iterator. At most [`NAMES_MOST`] names are taken in each; [`Table::match_lists`] takes any number. A name is never refused
+    /// for its content. The call keeps all keys in memory while it lasts.
     ///
     /// Refusals 13, a name over [`TEXT_MOST`](crate::TEXT_MOST), and 14, too many names.
     ///
@@ -260,8 +257,7 @@ impl Lent {
     /// Arrays that are long enough for the first list, if it is taken, and a store that mostly is for both.
     fn to_lists(first: &[u8], second: &[u8]) -> Lent {
         let names = (first.len() / RECORD_LEAST).min(NAMES_MOST);
-        let keys = (first.len() + second.len()).saturating_mul(KEY_PER_OCTET_MOST);
-        Lent { store: Vec::with_capacity(keys.min(STORE_MOST_AT_FIRST)), partners: vec![0; names], positions: vec![0; names] }
+        Lent { store: new_store(first.len() + second.len()), partners: vec![0; names], positions: vec![0; names] }
     }
 }
 

@@ -20,7 +20,15 @@ pub struct Refusal {
     kind: RefusalKind,
     place: u64,
     detail: u64,
-    lone: bool,
+    given: Given,
+}
+
+/// What a call was given, where the words of a refusal depend on it.
+#[derive(Clone, Copy, PartialEq, Eq, Hash)]
+enum Given {
+    OneText,
+    Two,
+    Many,
 }
 
 impl Refusal {
@@ -28,18 +36,28 @@ impl Refusal {
     pub(crate) fn of(row: &[u64]) -> Result<(), Refusal> {
         match row[0] {
             0 => Ok(()),
-            number => Err(Refusal { kind: number.into(), place: row[1], detail: row[2], lone: false }),
+            number => Err(Refusal { kind: number.into(), place: row[1], detail: row[2], given: Given::Two }),
         }
     }
 
     /// The same of a call on one text, of which a sentence doesn't say that it is the first.
     pub(crate) fn of_lone_text(row: &[u64]) -> Result<(), Refusal> {
-        Refusal::of(row).map_err(|refusal| Refusal { lone: true, ..refusal })
+        Refusal::of(row).map_err(|refusal| Refusal { given: Given::OneText, ..refusal })
+    }
+
+    /// The same of a call on many texts or keys, where the detail says which.
+    pub(crate) fn of_many(row: &[u64]) -> Result<(), Refusal> {
+        Refusal::of(row).map_err(|refusal| Refusal { given: Given::Many, ..refusal })
     }
 
     /// The same refusal, of a list: 1 or 2.
     pub(crate) fn of_list(self, place: u64) -> Refusal {
         Refusal { place, ..self }
+    }
+
+    /// The same refusal, of the name with this index.
+    pub(crate) fn of_index(self, index: usize) -> Refusal {
+        Refusal { detail: index as u64, ..self }
     }
 
     /// What was wrong.
@@ -100,7 +118,7 @@ impl Refusal {
 
     fn text(&self) -> &'static str {
         match self.place {
-            _ if self.lone => "the text",
+            _ if self.given == Given::OneText => "the text",
             2 => "the second text",
             _ => "the first text",
         }
@@ -137,6 +155,7 @@ impl fmt::Display for Refusal {
         let detail = self.detail;
         match self.kind {
             UnknownCollation => write!(f, "the collation is not 1, 2 or 3"),
+            TextTooLong if self.given == Given::Many => write!(f, "the text at index {detail} has over 4096 octets"),
             TextTooLong => write!(f, "{} has {detail} octets, and at most 4096 are taken", self.text()),
             TableSize => write!(f, "the entries are not four numbers each, or over 16384, or the pool has over 65536 numbers"),
             CodePoint => {
@@ -149,6 +168,7 @@ impl fmt::Display for Refusal {
             NoLevel => write!(f, "entry {detail} does not unfold within 8 levels into at most 32 code points"),
             KeyRoom => write!(f, "the key of {} needs a buffer of {detail} octets", self.text()),
             NoTab => write!(f, "the line has no tab"),
+            NameCount if self.given == Given::Many => write!(f, "there are over 4294967295 texts"),
             NameCount => write!(f, "the {} {}", self.list(), self.list_fault()),
             RecordLength | RecordKind | RecordBody if self.place > 0 => write!(f, "the {} {}", self.list(), self.list_fault()),
             RecordLength => write!(f, "fewer octets are left than the record's length takes or says, or that length is below 2"),
@@ -166,6 +186,8 @@ impl fmt::Display for Refusal {
             LineOrder => write!(f, "the code point is not above that of the line before"),
             NoRoom => write!(f, "the table has no room for the entry or its parts"),
             State => write!(f, "no line can have left this state"),
+            End => write!(f, "the end at index {detail} is below the one before it, or past the octets"),
+            FirstCount => write!(f, "there are {detail} keys, and the first list is said to have more names"),
             Unknown(_) => write!(f, "place {}, detail {detail}", self.place),
         }
     }

@@ -93,7 +93,7 @@ refusal_kinds! {
     RecordKind = 12, "record kind";
     /// A text or a text's length over 4,096 octets, or a key whose collation, flag or lengths no record has.
     RecordBody = 13, "record body";
-    /// A list has over 1,024 names.
+    /// A list has over 1,024 names, or a call on many texts has over 4,294,967,295.
     NameCount = 14, "name count";
     /// A data line is over 512 octets.
     LineTooLong = 20, "line too long";
@@ -115,4 +115,9 @@ refusal_kinds! {
     NoRoom = 27, "no room";
     /// A builder's state that no line can have left. [`TableBuilder`](crate::TableBuilder) never has one.
     State = 28, "impossible state";
+    /// An end of many texts or keys is below the one before it, or past their octets. This crate makes the ends itself, so no
+    /// call of it answers this.
+    End = 36, "end";
+    /// The first list is said to have more names than there are keys.
+    FirstCount = 37, "first count";
 }

@@ -1,6 +1,6 @@
 //! The numbers of the crate are those of include/mundeziwa.h.
 use mundeziwa::records::{KIND_KEY, KIND_TEXT};
-use mundeziwa::{Collation, RefusalKind, KEY_PER_OCTET_MOST, NAMES_MOST, TEXT_MOST};
+use mundeziwa::{Collation, RefusalKind, ENDS_MOST, KEY_PER_OCTET_MOST, NAMES_MOST, TEXT_MOST};
 
 const HEADER: &str = include_str!("../../../include/mundeziwa.h");
 
@@ -37,6 +37,7 @@ fn collations_limits_and_kinds_of_record_are_the_headers() {
         ("UNICODE_CASEMAP", Collation::UnicodeCasemap as u64),
         ("TEXT_MOST", TEXT_MOST as u64),
         ("NAMES_MOST", NAMES_MOST as u64),
+        ("ENDS_MOST", ENDS_MOST as u64),
         ("KEY_PER_OCTET_MOST", KEY_PER_OCTET_MOST as u64),
         ("KIND_TEXT", KIND_TEXT.into()),
         ("KIND_KEY", KIND_KEY.into()),

@@ -6,8 +6,8 @@ mod ffi;
 pub use ffi::{check_interface, mz_add_line, mz_check_table, Comparing, Preparing, Sharing};
 use ffi::{mz_equal, mz_equal_accepted, mz_order, mz_order_accepted};
 use ffi::{mz_find_shared, mz_find_shared_accepted};
+pub use ffi::{mz_match_keys, mz_prepare_many, mz_read_record, mz_write_key, mz_write_text};
 use ffi::{mz_prepare, mz_prepare_accepted, mz_substring, mz_substring_accepted};
-pub use ffi::{mz_read_record, mz_write_key, mz_write_text};
 
 /// A call on texts or lists in its two forms.
 pub struct Call<F> {

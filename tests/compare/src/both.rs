@@ -47,6 +47,15 @@ pub trait Describe {
     fn describe(&self) -> String;
 }
 
+/// Both programs' answers to a case must be the same.
+pub fn agree<A: PartialEq + Describe>(case: impl Fn() -> String, answer: Result<A, String>, expected: A) -> Result<A, String> {
+    if answer.as_ref() == Ok(&expected) {
+        return Ok(expected);
+    }
+    let library = answer.map_or_else(|fault| fault, |answer| answer.describe());
+    Err(format!("{}library: {library}\nsecond:  {}", case(), expected.describe()))
+}
+
 impl Table {
     /// Lends a table to both programs and compares their checks of it.
     pub fn new(entries: Vec<u32>, pool: Vec<u32>) -> Result<Table, String> {
@@ -129,7 +138,7 @@ impl Table {
         self.agree(call.name, accepted, || case.describe(), answer, Agreed { row, first_key, second_key })
     }
 
-    /// Both programs' answers to a case must be the same.
+    /// Both programs' answers to a case over this table must be the same.
     pub fn agree<A: PartialEq + Describe>(
         &self,
         name: &str,
@@ -138,13 +147,8 @@ impl Table {
         answer: Result<A, String>,
         expected: A,
     ) -> Result<A, String> {
-        if answer.as_ref() == Ok(&expected) {
-            return Ok(expected);
-        }
-        let library = answer.map_or_else(|fault| fault, |answer| answer.describe());
         let twin = if accepted { ", without the check of the table" } else { "" };
-        let (case, second) = (case(), expected.describe());
-        Err(format!("{name}{twin}\n{case}{}library: {library}\nsecond:  {second}", self.describe()))
+        agree(|| format!("{name}{twin}\n{}{}", case(), self.describe()), answer, expected)
     }
 
     /// The forms of a call that the header allows: with the check of the table (false), and without it.

@@ -26,19 +26,29 @@ struct Tally {
 pub fn run(settings: &Settings) -> Result<u64, Stop> {
     let octets = read_unicode_data(settings)?;
     let published = Published::new(lines_of(&octets));
-    let mut random = Random::new(settings.seed);
     let mut tally = Tally::default();
-    for number in 0..settings.cases {
-        let outcome = match number % 20 {
-            _ if number % 4_000 == 0 => one_table(&mut random, &mut tally, tables::at_the_limits),
-            0..=10 => one_table(&mut random, &mut tally, tables::any),
-            11..=18 => one_line(&mut random, &mut tally, &published),
-            _ => one_file(&mut random, &mut tally, &published),
-        };
-        outcome.map_err(|difference| format!("case {number} of seed {}\n{difference}", settings.seed))?;
-    }
+    for_cases(settings, settings.cases, |number, random| match number % 20 {
+        _ if number % 4_000 == 0 => one_table(random, &mut tally, tables::at_the_limits),
+        0..=10 => one_table(random, &mut tally, tables::any),
+        11..=18 => one_line(random, &mut tally, &published),
+        _ => one_file(random, &mut tally, &published),
+    })?;
     tally.report(settings.cases)?;
     Ok(settings.cases)
+}
+
+/// Makes so many cases, told by their numbers, from the random numbers of the seed; a difference names its case.
+pub fn for_cases(
+    settings: &Settings,
+    cases: u64,
+    mut one_case: impl FnMut(u64, &mut Random) -> Result<(), String>,
+) -> Result<(), String> {
+    let mut random = Random::new(settings.seed);
+    for number in 0..cases {
+        let outcome = one_case(number, &mut random);
+        outcome.map_err(|difference| format!("case {number} of seed {}\n{difference}", settings.seed))?;
+    }
+    Ok(())
 }
 
 /// A table, in a third of the cases with faults put in, and a pair of texts over it.

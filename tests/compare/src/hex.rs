@@ -15,3 +15,10 @@ pub fn hex_numbers(numbers: &[u32]) -> String {
     let rest = if numbers.len() > SHOWN { " .." } else { "" };
     format!("({} numbers) {}{rest}", numbers.len(), shown.join(" "))
 }
+
+/// Numbers of octets, long rows cut.
+pub fn sizes(sizes: &[usize]) -> String {
+    const SHOWN: usize = 200;
+    let rest = if sizes.len() > SHOWN { " .." } else { "" };
+    format!("({} numbers) {:?}{rest}", sizes.len(), &sizes[..sizes.len().min(SHOWN)])
+}

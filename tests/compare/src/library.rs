@@ -6,10 +6,15 @@ use second::lists::Report;
 use second::records::Origin;
 use second::unicode_data::State;
 
+mod many;
+
+pub use many::{match_keys, prepare_many};
+
 /// The answer row before a call: each call must write the whole of it.
 const ROW_UNWRITTEN: u64 = 0xA5A5_5A5A_C3C3_3C3C;
 const OCTET_GUARD: u8 = 0x9D;
 const NUMBER_GUARD: u32 = 0x9D9D_9D9D;
+const SIZE_GUARD: usize = usize::MAX / 0xFF * 0x9D;
 
 /// A table lent to the library for many calls.
 pub struct LentTable {

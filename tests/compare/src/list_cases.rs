@@ -2,7 +2,7 @@
 //! every interesting length.
 
 use crate::both::Table;
-use crate::cases::{list, ENOUGH};
+use crate::cases::{for_cases, list, ENOUGH};
 use crate::random::Random;
 use crate::record_lists::{damage, raw};
 use crate::settings::Settings;
@@ -29,12 +29,8 @@ struct Tally {
 
 pub fn run(settings: &Settings) -> Result<u64, Stop> {
     let cases = settings.cases.div_ceil(SHARE);
-    let mut random = Random::new(settings.seed);
     let mut tally = Tally::default();
-    for number in 0..cases {
-        let outcome = one_case(&mut random, &mut tally);
-        outcome.map_err(|difference| format!("case {number} of seed {}\n{difference}", settings.seed))?;
-    }
+    for_cases(settings, cases, |_, random| one_case(random, &mut tally))?;
     tally.report(settings.cases)?;
     Ok(cases)
 }
@@ -68,14 +64,19 @@ impl Tally {
     }
 }
 
-fn one_case(random: &mut Random, tally: &mut Tally) -> Result<(), String> {
+/// A table, some of them with faults, and a collation, some of them none.
+pub fn table_and_collation(random: &mut Random) -> Result<(Table, u32), String> {
     let mut slices = tables::any(random);
     if random.one_in(6) {
         faults::spoil(random, &mut slices);
     }
-    let table = Table::new(slices.0, slices.1)?;
     let none = random.pick(&[0, 4, 5, u32::MAX]);
     let collation = random.pick(&[3, 3, 3, 3, 3, 3, 3, 3, 2, 2, 2, 2, 1, 1, 1, none]);
+    Ok((Table::new(slices.0, slices.1)?, collation))
+}
+
+fn one_case(random: &mut Random, tally: &mut Tally) -> Result<(), String> {
+    let (table, collation) = table_and_collation(random)?;
     let stock = stock(random, collation, &table);
     let (first, second) = (names(random, &stock), names(random, &stock));
     let needed = first.iter().chain(&second).map(|name| texts::key(collation, name, &table).len()).sum();
@@ -93,7 +94,7 @@ fn one_case(random: &mut Random, tally: &mut Tally) -> Result<(), String> {
 }
 
 /// Few texts that have something in common, or begin alike.
-fn stock(random: &mut Random, collation: u32, table: &Table) -> Vec<Vec<u8>> {
+pub fn stock(random: &mut Random, collation: u32, table: &Table) -> Vec<Vec<u8>> {
     let letters = texts::letters_of(random, table);
     let mut stock = vec![texts::text(random, &letters)];
     for _ in 0..random.between(0, 6) {
@@ -108,7 +109,7 @@ fn stock(random: &mut Random, collation: u32, table: &Table) -> Vec<Vec<u8>> {
 }
 
 /// A list of texts of the stock: mostly short, seldom about as long as one may be.
-fn names(random: &mut Random, stock: &[Vec<u8>]) -> Vec<Vec<u8>> {
+pub fn names(random: &mut Random, stock: &[Vec<u8>]) -> Vec<Vec<u8>> {
     let is_most = random.one_in(300);
     let size = if is_most { random.between(1_022, 1_027) } else { random.pick(&[0, 1, 2, 3, 4, 5, 8, 20]) };
     let short: Vec<&Vec<u8>> = stock.iter().filter(|text| !is_most || text.len() < 20).collect();
@@ -129,23 +130,26 @@ fn spoil(random: &mut Random, list: &mut Vec<u8>) {
     list.splice(at..at, octets);
 }
 
-/// The lengths of the store and of the arrays. The 128 octets for each octet, which always suffice, are lent for lists that aren't
-/// long.
+/// The lengths of the store and of the arrays.
 fn rooms(random: &mut Random, needed: usize, first: &[Vec<u8>], second: &[Vec<u8>]) -> Rooms {
-    let octets: usize = first.iter().chain(second).map(Vec::len).sum();
-    let store = match random.below(12) {
+    let octets = first.iter().chain(second).map(Vec::len).sum();
+    Rooms { store: store(random, needed, octets), partners: array(random, first.len()), positions: array(random, first.len()) }
+}
+
+/// A store's length. The 128 octets for each octet of the names, which always suffice, are lent for lists that aren't long.
+pub fn store(random: &mut Random, needed: usize, octets: usize) -> usize {
+    match random.below(12) {
         0..=4 => needed,
         5 => needed.saturating_sub(1),
         6 => random.pick(&[0, needed / 2]),
         7..=8 if octets < LONG => 128 * octets + random.below(3),
         9 if octets < LONG => (128 * octets).saturating_sub(1),
         _ => needed + random.between(1, 9),
-    };
-    Rooms { store, partners: array(random, first.len()), positions: array(random, first.len()) }
+    }
 }
 
 /// An array's length: just enough, one short, none, or more than enough.
-fn array(random: &mut Random, needed: usize) -> usize {
+pub fn array(random: &mut Random, needed: usize) -> usize {
     match random.below(12) {
         0..=6 => needed,
         7 => needed.saturating_sub(1),

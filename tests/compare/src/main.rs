@@ -5,7 +5,7 @@
 //! at fault, or a part would run no case. A read or write outside a lent slice ends the process by SIGSEGV (see `pages`).
 //!
 //! Variables: MZ_SEED and MZ_CASES (the random parts), MZ_UNICODE_DATA and MZ_NFKD (files of part 2), UTF8_TEST (the published
-//! stress test, if it is at hand), MZ_SHORT=yes (part 2 without the scalar code points and NFKD, fewer cases in 3, 4, 6 and 7),
+//! stress test, if it is at hand), MZ_SHORT=yes (part 2 without the scalar code points and NFKD, fewer cases in 3, 4 and 6 to 8),
 //! MZ_PARTS (the numbers of the parts to run, all without it).
 
 mod abi;
@@ -14,19 +14,25 @@ mod building;
 mod cases;
 mod example_lines;
 mod example_lists;
+mod example_many;
 mod example_records;
 mod example_tables;
 mod example_titlecases;
 mod examples;
 mod faults;
 mod hex;
+mod huge;
 mod lent;
 mod library;
 mod lines;
 mod list_cases;
 mod lists;
 mod made;
+mod many;
+mod many_cases;
+mod matching;
 mod pages;
+mod preparing;
 mod published;
 mod published_titlecases;
 mod random;
@@ -55,7 +61,7 @@ struct Part {
     run: fn(&Settings) -> Result<u64, Stop>,
 }
 
-const PARTS: [Part; 7] = [
+const PARTS: [Part; 8] = [
     Part { number: '1', name: "part 1, examples", run: examples::run },
     Part { number: '2', name: "part 2, UnicodeData", run: published::run },
     Part { number: '3', name: "part 3, UTF-8 sequences", run: stress::run },
@@ -63,6 +69,7 @@ const PARTS: [Part; 7] = [
     Part { number: '5', name: "part 5, random cases", run: cases::run },
     Part { number: '6', name: "part 6, records", run: records::run },
     Part { number: '7', name: "part 7, lists", run: lists::run },
+    Part { number: '8', name: "part 8, many", run: many::run },
 ];
 
 /// The parts that a list of numbers names, in their order.

@@ -13,6 +13,7 @@ use crate::stop::Stop;
 const UNIT: usize = 65_536;
 
 const PROT_NONE: c_int = 0;
+const PROT_READ: c_int = 1;
 const PROT_READ_AND_WRITE: c_int = 1 | 2;
 const MAP_PRIVATE_AND_ANONYMOUS: c_int = 0x02 | 0x20;
 const SIGSEGV: c_int = 11;
@@ -38,7 +39,7 @@ impl Pages {
     pub fn take(size: usize) -> Pages {
         let doublings = size.div_ceil(UNIT).next_power_of_two().trailing_zeros() as usize;
         let free = FREE.with_borrow_mut(|free| free.get_mut(doublings).and_then(Vec::pop));
-        Pages { start: free.unwrap_or_else(|| map(UNIT << doublings)), doublings }
+        Pages { start: free.unwrap_or_else(|| map(UNIT << doublings, PROT_READ_AND_WRITE)), doublings }
     }
 
     /// The first octet; the one before it can't be read.
@@ -63,16 +64,36 @@ impl Drop for Pages {
     }
 }
 
+/// So many elements for reading: some, and then zeros. However many they are, they take no memory but for those at the beginning,
+/// which one page holds. They are never given back.
+pub fn mostly_zeros<T: Copy>(beginning: &[T], length: usize) -> &'static [T] {
+    let size = length * size_of::<T>();
+    let start = map(size.next_multiple_of(UNIT), PROT_READ);
+    open(start, UNIT, PROT_READ_AND_WRITE);
+    // SAFETY: new pages hold zeros, and the first of them can be written until they are shut to that below.
+    let elements = unsafe {
+        start.copy_from_nonoverlapping(beginning.as_ptr().cast(), size_of_val(beginning));
+        std::slice::from_raw_parts(start.cast(), length)
+    };
+    open(start, UNIT, PROT_READ);
+    elements
+}
+
 /// Maps an open run of `size` octets between two shut ones.
-fn map(size: usize) -> *mut u8 {
+fn map(size: usize, protection: c_int) -> *mut u8 {
     // SAFETY: a new mapping is asked for, of which nothing else knows.
     let whole = unsafe { mmap(std::ptr::null_mut(), size + 2 * UNIT, PROT_NONE, MAP_PRIVATE_AND_ANONYMOUS, -1, 0) };
     assert!(whole as isize != -1, "no pages can be mapped");
-    let open = whole.wrapping_byte_add(UNIT);
-    // SAFETY: the octets from `open` on lie within that mapping.
-    let status = unsafe { mprotect(open, size, PROT_READ_AND_WRITE) };
+    let start = whole.cast::<u8>().wrapping_add(UNIT);
+    open(start, size, protection);
+    start
+}
+
+/// Opens mapped pages, for reading or for both.
+fn open(start: *mut u8, size: usize, protection: c_int) {
+    // SAFETY: they lie within a mapping of this module.
+    let status = unsafe { mprotect(start.cast(), size, protection) };
     assert!(status == 0, "pages can't be opened");
-    open.cast()
 }
 
 /// The argument with which this program reads one octet beyond a run, before it or after it.

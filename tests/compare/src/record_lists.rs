@@ -2,7 +2,7 @@
 //! that preparation left.
 
 use crate::both::{pattern, Table};
-use crate::cases::{list, ENOUGH};
+use crate::cases::{for_cases, list, ENOUGH};
 use crate::hex::hex;
 use crate::library;
 use crate::random::Random;
@@ -26,17 +26,13 @@ struct Tally {
 const THE_END: u64 = 10;
 
 pub fn run(settings: &Settings) -> Result<u64, Stop> {
-    let mut random = Random::new(settings.seed);
     let mut tally = Tally::default();
-    for number in 0..settings.cases {
-        let outcome = match number % 5 {
-            0 => one_list(&mut random, &mut tally),
-            1 | 2 => one_slice(&mut random, &mut tally),
-            3 => one_writing(&mut random, &mut tally),
-            _ => one_prepared(&mut random, &mut tally),
-        };
-        outcome.map_err(|difference| format!("case {number} of seed {}\n{difference}", settings.seed))?;
-    }
+    for_cases(settings, settings.cases, |number, random| match number % 5 {
+        0 => one_list(random, &mut tally),
+        1 | 2 => one_slice(random, &mut tally),
+        3 => one_writing(random, &mut tally),
+        _ => one_prepared(random, &mut tally),
+    })?;
     tally.report(settings.cases)?;
     Ok(settings.cases)
 }

@@ -102,7 +102,7 @@ fn check_arrays(first: &Keys, report: &Report) -> Result<(), Refusal> {
 }
 
 /// "Equal pairs across them": each name of the first list beside each of the second.
-fn equal_pairs(first: &Keys, second: &Keys) -> u64 {
+pub(crate) fn equal_pairs<K: PartialEq>(first: &[K], second: &[K]) -> u64 {
     let mut pairs = 0;
     for one in first {
         pairs += second.iter().filter(|&other| other == one).count() as u64;
@@ -111,15 +111,15 @@ fn equal_pairs(first: &Keys, second: &Keys) -> u64 {
 }
 
 /// "The lowest-numbered partner of each (counted from 1; 0 if none)."
-fn partners(first: &Keys, second: &Keys) -> Vec<u32> {
+pub(crate) fn partners<K: PartialEq>(first: &[K], second: &[K]) -> Vec<u32> {
     let partner = |one| second.iter().position(|other| other == one).map_or(0, |index| index as u32 + 1);
     first.iter().map(partner).collect()
 }
 
 /// "The first list's positions, from 1 too, in key order, ties by position."
-fn positions(first: &Keys) -> Vec<u32> {
+pub(crate) fn positions<K: AsRef<[u8]>>(first: &[K]) -> Vec<u32> {
     let mut indices: Vec<usize> = (0..first.len()).collect();
-    indices.sort_by(|&one, &other| order_of(&first[one], &first[other]).then(one.cmp(&other)));
+    indices.sort_by(|&one, &other| order_of(first[one].as_ref(), first[other].as_ref()).then(one.cmp(&other)));
     indices.iter().map(|&index| index as u32 + 1).collect()
 }
 

@@ -1,10 +1,10 @@
-//! Why two lists were refused, and where.
+//! Why lists were refused, and where.
 use crate::records::{reading_reason, Record, Records, KIND_TEXT};
 use crate::{Refusal, RefusalKind, NAMES_MOST, TEXT_MOST};
 use std::fmt;
 
-/// Why two lists could not be compared: the refusal, which list it is, which of its names, and the reason. Both `{}` and `{:?}`
-/// print the sentence.
+/// Why a list or two were refused: the refusal, which list it is, which of its names, and the reason. Both `{}` and `{:?}` print
+/// the sentence.
 ///
 /// ```
 /// use mundeziwa::{Collation, Table};
@@ -23,11 +23,24 @@ pub struct ListError {
 }
 
 impl ListError {
-    /// The refusal of a name that was to be written as a record.
+    /// The refusal of a name that is too long, in one of two lists.
     pub(crate) fn of_name(refusal: Refusal, index: usize, length: usize) -> ListError {
-        let list = refusal.list();
-        let reason = format!("{list}, name at index {index}: it has {length} octets, and at most {TEXT_MOST} are taken");
+        ListError::too_long(refusal, &format!("{}, name", refusal.list()), index, length)
+    }
+
+    /// The refusal of a text that is too long, in the only list.
+    pub(crate) fn of_text(refusal: Refusal, index: usize, length: usize) -> ListError {
+        ListError::too_long(refusal, "text", index, length)
+    }
+
+    fn too_long(refusal: Refusal, what: &str, index: usize, length: usize) -> ListError {
+        let reason = format!("{what} at index {index}: it has {length} octets, and at most {TEXT_MOST} are taken");
         ListError { refusal, index: Some(index), reason }
+    }
+
+    /// The refusal of all that was given.
+    pub(crate) fn of_all(refusal: Refusal) -> ListError {
+        ListError { refusal, index: None, reason: refusal.to_string() }
     }
 
     /// The refusal of two lists. The library has decided that they are refused; they are looked at again for the words alone.
@@ -40,7 +53,7 @@ impl ListError {
                 let reason = format!("the {} has {count} names, and at most {NAMES_MOST} are taken", refusal.list());
                 ListError { refusal, index: None, reason }
             }
-            _ => ListError { refusal, index: None, reason: refusal.to_string() },
+            _ => ListError::of_all(refusal),
         }
     }
 

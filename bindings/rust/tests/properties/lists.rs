@@ -5,7 +5,7 @@ use mundeziwa::records::write_text;
 use mundeziwa::Table;
 
 /// Two lists, mostly with names in common.
-fn lists(random: &mut Random, table: &Table) -> [Vec<Vec<u8>>; 2] {
+pub fn lists(random: &mut Random, table: &Table) -> [Vec<Vec<u8>>; 2] {
     let mut lists = [Vec::new(), Vec::new()];
     for _ in 0..random.below(12) {
         let [first, second] = texts::related(random, table);
