@@ -31,7 +31,7 @@ lib: ## prove the library, and leave it for C, Rust and Python in build/lib
 		rt staticlib $$crate || exit 1; \
 	done > build/lib.log 2>&1 || { tail -n 20 build/lib.log; exit 1; }
 	@bash bindings/join.sh $(EXPORTS)
-	@echo 'build/lib/libmundeziwa.a and libmundeziwa.so; the headers are in include, the Rust crate and the Python package in bindings'
+	@echo 'build/lib/libmundeziwa.a and libmundeziwa.so; the headers are in include, what Rust and Python need is in bindings'
 
 check: ## with CRATE=name: prove that crate and those that it needs
 	@[ -n "$$CRATE" ] || { echo 'say which crate: make check CRATE=utf8 (crates.txt names them)' >&2; exit 2; }

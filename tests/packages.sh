@@ -36,3 +36,23 @@ need_fuzzer() {
     need_packages 'clang, or its runtime for libFuzzer,' clang libclang-rt-14-dev || return 1
     can_build_fuzzer || { cat build/fuzzer.log >&2; return 1; }
 }
+
+# Whether a Python can import pandas: the one on the path, or Debian's own.
+has_pandas() {
+    python3 -c 'import pandas' 2> /dev/null || /usr/bin/python3 -c 'import pandas' 2> /dev/null
+}
+
+# The Python package can be tried with pandas.
+need_pandas() {
+    has_pandas || need_packages 'pandas' python3-pandas && has_pandas
+}
+
+# Whether Python can put pip into a virtual environment.
+has_ensurepip() {
+    python3 -c 'import ensurepip' 2> /dev/null
+}
+
+# `pip install` can be tried.
+need_ensurepip() {
+    has_ensurepip || need_packages "Python's ensurepip" python3-venv && has_ensurepip
+}

@@ -1,7 +1,7 @@
 #!/usr/bin/env bash
-# README.md as a newcomer takes it: its C program, compiled strictly, its Rust programs, in a crate with its line for Cargo.toml,
-# and `pairs` print what it says; the file of records has the octets that it shows; its commands are those of `make help`, and its
-# crates those of crates.txt.
+# README.md as a newcomer takes it: `make` shows the report that it shows; its Python program, its C program, compiled strictly,
+# its Rust programs, in a crate with its line for Cargo.toml, and `pairs` print what it says; the file of records has the octets
+# that it shows; its commands are those of `make help` and of `mundeziwa --help`, and its crates those of crates.txt.
 # Needs build/lib, which `make lib` leaves; target/bin/pairs is left by `make pairs` and by `rt ci`.
 set -euo pipefail
 cd "$(dirname "$0")/.."
@@ -31,8 +31,30 @@ run_rust() {
         || fail "the Rust program $1 fails"
 }
 
+# run_python ARGUMENT..: what Python prints with the package.
+run_python() {
+    PYTHONPATH=bindings/python python3 -B -X utf8 "$@"
+}
+
 readonly OUT=build/readme
 mkdir -p "$OUT/src/bin"
+
+# `make`, the library being there, and without the empty line before the report. Two dots stand for what README.md leaves out.
+unset MUNDEZIWA_LIBRARY
+said=$(block 'Two commands' text)
+printed=$(make -s -o lib | tail -n +2) || fail 'make fails'
+begins=${said%%$'\n..\n'*} ends=${said#*$'\n..\n'}
+same 'the report begins otherwise' "$begins" "$(head -n "$(wc -l <<< "$begins")" <<< "$printed")"
+same 'the report ends otherwise' "$ends" "$(tail -n "$(wc -l <<< "$ends")" <<< "$printed")"
+if MUNDEZIWA_LIBRARY=none make -s -o lib > /dev/null 2>&1; then
+    fail 'make ends well though there is no report'
+fi
+
+said=$(block 'From Python' text)
+[ -n "$said" ] || fail 'README.md says nowhere what its Python program prints'
+printed=$(run_python -c "$(block 'From Python' python)") || fail 'the Python program fails'
+same 'the Python program prints something else' "$said" "$printed"
+
 said=$(block 'From C' text)
 [ -n "$said" ] || fail 'README.md says nowhere what its programs print'
 
@@ -72,6 +94,11 @@ same 'pairs prints something else' "$said" "$(cd sample && ../target/bin/pairs <
 
 commands=$(sed -n 's/^    \(make [a-z]*  *[a-z].*\)/\1/p' README.md)
 same 'README.md and make help have different commands' "$(make -s help)" "$commands"
+
+# the help breaks its lines elsewhere
+parts=$(sed -n 's/^    mundeziwa \([a-z]*\) [A-Z ]*  \([a-z].*\)/\1 \2/p' README.md | tr '\n' ' ')
+same 'README.md and mundeziwa --help have different parts' "$parts" \
+    "$(run_python -m mundeziwa --help | tr -s ' \n' ' ' | sed 's/.* parts: PART //;s/examples: .*//')"
 
 crates=$(awk -F '|' '/^\| Crate/ { inside = 1; getline; next } !/^\|/ { inside = 0 } inside { print $2 }' README.md)
 same 'README.md and crates.txt have different crates' "$(sed -n 's/^\([a-z0-9_]*\):.*/\1/p' crates.txt | sort)" \

@@ -15,6 +15,8 @@ fail() {
 . tests/packages.sh
 need_unicode_data || fail 'no UnicodeData.txt'
 need_fuzzer || fail 'no clang that can build a fuzzer'
+need_pandas || fail 'no Python with pandas'
+need_ensurepip || fail 'no Python that can install pip'
 
 verdict=$(mktemp)
 fuzzed=$(mktemp)
@@ -26,6 +28,7 @@ grep -Eqx '[0-9]+ passed, 0 failed' "$verdict" || fail "rt ci ended with: $(cat 
 rt fmt --check || fail 'rt fmt --check: a file is not in the layout (mend with: rt fmt)'
 bash tests/specification.sh || fail 'tests/specification.sh: docs/SPECIFICATION.md and the definitions differ'
 bash tests/library.sh || fail 'tests/library.sh: the library does not answer C or Rust as it should'
+bash tests/python.sh || fail 'tests/python.sh: the Python package or the command does not answer as it should'
 bash tests/pairs.sh || fail 'tests/pairs.sh: the program pairs does not print what it should'
 # The fuzzer takes one core, and so does the comparison: they run at once, and what the fuzzer says is printed after.
 bash tests/fuzz.sh > "$fuzzed" 2>&1 &

@@ -2,8 +2,8 @@
 
 - A row of the map names definitions, theorems, edits and tests, each with its file, and they are there.
 - A definition stands in specs/ or src/; what shows a claim stands in proofs/, must-fail/ or tests/.
-- Every file of specs/ is named, and every theorem of Demand1.antt to Demand3.antt, Document01.antt and Request01.antt and on, of
-  crates/demands/proofs.
+- Every file of specs/ is named, and every theorem of Demand1.antt to Demand3.antt, Document01.antt, Request01.antt and on, and
+  Bulk.antt, of crates/demands/proofs.
 - The statements of these theorems, and the files of specs/, use nothing that is defined in proofs/.
 - Every edit of crates/*/must-fail is named in docs/CONTRACTS.md.
 
@@ -18,8 +18,8 @@ MAP = Path("docs/SPECIFICATION.md")
 CONTRACTS = Path("docs/CONTRACTS.md")
 CRATES = Path("crates")
 PROOFS = CRATES / "demands" / "proofs"
-STATED = r"Demand\d|Document01|Request\d\d\w*"
-DEMANDS = [PROOFS / f"{name}.antt" for name in ("Demand1", "Demand2", "Demand3", "Document01")]
+STATED = r"Demand\d|Document01|Request\d\d\w*|Bulk"
+DEMANDS = [PROOFS / f"{name}.antt" for name in ("Demand1", "Demand2", "Demand3", "Document01", "Bulk")]
 DEMANDS += sorted(PROOFS.glob("Request*.antt"))
 faults = []
 

@@ -12,7 +12,7 @@ use lib.Dec.{eqb}
 use lib.ListN.{length, take, drop, getD, length-map, length-append, List·getD-append}
 use lib.Seq.{take-at}
 use Rattle.terms.specs.Lists.{empty, over, same, total}
-use Rattle.terms.specs.Refusals.{first, gives, refused}
+use Rattle.terms.specs.Refusals.{first, gives}
 use Rattle.terms.specs.declared.Collation.{Collation}
 use Rattle.terms.specs.declared.Collation.the-variants.{UnicodeCasemap}
 use Rattle.terms.specs.declared.Refusal.{Refusal}
@@ -38,14 +38,16 @@ use Rattle.storing.specs.Stored.{joined, endsFrom, stringsIn}
 use Rattle.storing.proofs.Ended.{length-endsFrom, strings-stand}
 use Rattle.storing.proofs.Room.{store-room}
 use Rattle.many.specs.Many.{ManyCall, textsOf, manyKeys, manyValid, textsChecks, roomsRefusal, manyRefusal, manyValues}
-use Rattle.many.specs.Many.{batchOutcome, slicesAfter}
+use Rattle.many.specs.Many.{slicesAfter}
 use Rattle.many.specs.declared.Batch.{Batch}
 use Rattle.many.specs.declared.Batch.the-variants.{Prepared, Refused}
+use Rattle.many.proofs.Injective.{batchOutcome-inj}
 use Rattle.many.proofs.Walking.{length-strings, string-at}
 use Rattle.matching.specs.Matching.{KeysCall, bothKeys, firstKeys, secondKeys, inOrder, repeated, keysRefusal, matchedValues}
-use Rattle.matching.specs.Matching.{matchedOutcome, rowsAfter, Matches}
+use Rattle.matching.specs.Matching.{rowsAfter, Matches}
 use Rattle.matching.specs.declared.Matched.{Matched}
 use Rattle.matching.specs.declared.Matched.the-variants.{Found, Refused as Unmatched}
+use Rattle.matching.proofs.Injective.{matchedOutcome-inj}
 use Rattle.matching.proofs.Repeats.{length-repeated}
 use Rattle.partners.specs.declared.Totals.{Totals}
 use Rattle.demands.specs.Bulk.{FirstRule, ManyCalled, manyRules, keysRules}
@@ -55,16 +57,12 @@ use Rattle.demands.proofs.Rules.{many-gives, keys-gives}
 
 -- ---- many texts: refusals
 
-batch-refused : (r : Batch) (x : Refusal) → batchOutcome r ≡ refused x → r ≡ Refused x
-batch-refused (Prepared n) x e = cc
-batch-refused (Refused y) x e = cc
-
 module _ {c : ManyCall} {r : Batch} {after : List (List ℕ)} (call : ManyCalled c r after) where
   -- "Refusals 1, 14, 36, 2, 3 to 7, 8": refused with x exactly when x is that of the first rule that applies
   pub many-refused : (x : Refusal) → (r ≡ Refused x) ↔ FirstRule (manyRules c) x
   many-refused x = (
     λ e. many-gives c x .0 (answer-refused (manyRefusal c) (manyValues c) x (rw e at (call .answered))),
-    λ w. batch-refused r x (rw (many-gives c x .1 w) at (call .answered)),
+    λ w. batchOutcome-inj r (Refused x) (rw (many-gives c x .1 w) at (call .answered)),
   )
 
   -- "On a refusal no other lent buffer changes" (demand 1)
@@ -172,16 +170,12 @@ module _ {c : ManyCall} {n : ℕ} {store keyEnds valid : List ℕ}
 
 -- ---- keys: refusals
 
-matched-refused : (r : Matched) (x : Refusal) → matchedOutcome r ≡ refused x → r ≡ Unmatched x
-matched-refused (Found t) x e = cc
-matched-refused (Unmatched y) x e = cc
-
 module _ {c : KeysCall} {r : Matched} {after : List (List ℕ)} (call : Matches c r after) where
   -- "Refusals 14, 36, 37, 8"
   pub match-refused : (x : Refusal) → (r ≡ Unmatched x) ↔ FirstRule (keysRules c) x
   match-refused x = (
     λ e. keys-gives c x .0 (answer-refused (keysRefusal c) (matchedValues c) x (rw e at (call .answered))),
-    λ w. matched-refused r x (rw (keys-gives c x .1 w) at (call .answered)),
+    λ w. matchedOutcome-inj r (Unmatched x) (rw (keys-gives c x .1 w) at (call .answered)),
   )
 
   pub match-kept : (x : Refusal) → r ≡ Unmatched x → after ≡ c .row ∷ c .repeats ∷ c .partners ∷ []
@@ -286,11 +280,8 @@ module _ {c : KeysCall} {t : Totals} {row repeats partners : List ℕ}
       (drop (length (repeated (inOrder (bothKeys c)))) (c .repeats)) 0 i
       (omega (arith, length-repeated (inOrder (bothKeys c)), order-long))
 
-  -- the key at a place of the row
-  abbrev keyAt : ℕ → List ℕ
-  keyAt i = getD (inOrder (bothKeys c)) i []
-
-  pub match-repeats : (i : ℕ) → suc i < length (bothKeys c) → (getD repeats i 0 ≡ 1) ↔ (keyAt i ≡ keyAt (suc i))
+  pub match-repeats : (i : ℕ) → suc i < length (bothKeys c)
+      → (getD repeats i 0 ≡ 1) ↔ (getD (inOrder (bothKeys c)) i [] ≡ getD (inOrder (bothKeys c)) (suc i) [])
   match-repeats i h =
       rw (repeat-at i (omega arith)) (repeats-exactly (inOrder (bothKeys c)) i (omega (arith, order-long)))
 

@@ -1,3 +1,4 @@
 pub mod Answers
 pub mod Filled
+pub mod Injective
 pub mod Walking

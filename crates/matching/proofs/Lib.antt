@@ -1,2 +1,3 @@
+pub mod Injective
 pub mod Ordered
 pub mod Repeats
