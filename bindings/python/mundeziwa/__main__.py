@@ -1,0 +1,7 @@
+"""`python3 -m mundeziwa`: the command."""
+
+import sys
+
+from .command.main import main
+
+sys.exit(main())
