@@ -30,10 +30,13 @@ class Lines(ReadingTest):
     def test_empty_files(self):
         empty, some = self.file("a", b""), self.file("b", b"x\n")
         self.assertEqual(self.lines_of(b""), [])
-        self.assertIn("Total: 0 shared names", self.answer(0, "shared", empty, some))
-        self.assertIn("Total: 0 shared names", self.answer(0, "shared", some, empty))
-        self.assertIn("Total: 0 shared names", self.answer(0, "shared", empty, empty))
         self.answer(0, "duplicates", empty)
+        # Nothing is shared with no names, and that there are none is said.
+        for lists in ([empty, some], [some, empty], [empty, empty]):
+            ended = run("shared", *lists)
+            self.assertEqual(ended.returncode, 0)
+            self.assertIn("Total: 0 shared names", ended.stdout.decode())
+            self.assertEqual(ended.stderr.decode(), f"mundeziwa: {empty} has no names\n" * lists.count(empty))
 
     def test_byte_order_mark(self):
         mark = b"\xef\xbb\xbf"

@@ -72,5 +72,9 @@ def run(options):
         with names_named(lists):
             findings = Findings(lists, options, open_table(options))
     write_lines(FORMATS[options.format](findings))
+    # A list that came out empty shares nothing with any other, and a job that made it so would pass unseen.
+    for listed in lists:
+        if not listed.names:
+            complain(f"{listed.label} has no names")
     complain(findings.why())
     return findings.status
