@@ -36,10 +36,10 @@ class CommandTest(unittest.TestCase):
         path.write_bytes(octets.encode() if isinstance(octets, str) else octets)
         return path
 
-    def answer(self, status, *arguments, **settings):
-        """What the command prints, once it has ended with that status and without a word on standard error."""
+    def answer(self, status, *arguments, said="", **settings):
+        """What the command prints, once it has ended with that status, and without another word on standard error."""
         ended = run(*arguments, **settings)
-        self.assertEqual(ended.stderr.decode(), "")
+        self.assertEqual(ended.stderr.decode(), said)
         self.assertEqual(ended.returncode, status, ended.stdout.decode())
         return ended.stdout.decode()
 

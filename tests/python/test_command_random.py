@@ -70,7 +70,9 @@ class AllPairs(CommandTest):
         status = 1 if met else 2 if any(broken) else 0
         paths = self.file("first", first), self.file("second", second)
         self.assertEqual(run("shared", *paths, "--collation", collation).returncode, status)
-        objects, totals = self.objects(int(bool(met)), "shared", *paths, "--collation", collation, "--allow-invalid")
+        said = "".join(f"mundeziwa: {path} has no names\n" for path, names in zip(paths, (first, second)) if not names)
+        arguments = ["shared", *paths, "--collation", collation, "--allow-invalid"]
+        objects, totals = self.objects(int(bool(met)), *arguments, said=said)
         groups = collections.defaultdict(list)
         for found in objects:
             groups[found["type"]].append(found)

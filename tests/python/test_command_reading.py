@@ -33,10 +33,8 @@ class Lines(ReadingTest):
         self.answer(0, "duplicates", empty)
         # Nothing is shared with no names, and that there are none is said.
         for lists in ([empty, some], [some, empty], [empty, empty]):
-            ended = run("shared", *lists)
-            self.assertEqual(ended.returncode, 0)
-            self.assertIn("Total: 0 shared names", ended.stdout.decode())
-            self.assertEqual(ended.stderr.decode(), f"mundeziwa: {empty} has no names\n" * lists.count(empty))
+            said = f"mundeziwa: {empty} has no names\n" * lists.count(empty)
+            self.assertIn("Total: 0 shared names", self.answer(0, "shared", *lists, said=said))
 
     def test_byte_order_mark(self):
         mark = b"\xef\xbb\xbf"

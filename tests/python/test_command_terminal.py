@@ -172,6 +172,25 @@ class Pipes(CommandTest):
 
 
 class Interruptions(CommandTest):
+    def handle(self, handler):
+        """Takes interruptions so until the test ends. What is started then has them at their default, or ignores them too."""
+        self.addCleanup(signal.signal, signal.SIGINT, signal.signal(signal.SIGINT, handler))
+
+    def setUp(self):
+        super().setUp()
+        # In the background of a shell they are ignored, and the tests may run there.
+        self.handle(signal.default_int_handler)
+
+    def test_interruptions_that_are_ignored(self):
+        names = self.file("a", [b"a longer name, so that few of them fill a pipe: %d" % number for number in range(50_000)])
+        self.handle(signal.SIG_IGN)
+        with start("keys", names) as child:
+            written = child.stdout.read(10_000)
+            child.send_signal(signal.SIGINT)
+            written += child.stdout.read()
+            self.assertEqual((child.wait(60), child.stderr.read()), (0, b""))
+        self.assertEqual(written.count(b"\n"), 50_000)
+
     def test_ctrl_c_while_it_writes(self):
         names = self.file("a", [b"a longer name, so that few of them fill a pipe: %d" % number for number in range(50_000)])
         for unbuffered in ("", "1"):

@@ -18,7 +18,10 @@ class _Deferred:
         self.asked = True
 
     def __enter__(self):
-        self._before = signal.signal(signal.SIGINT, self._note)
+        self._before = signal.getsignal(signal.SIGINT)
+        # Where interruptions are ignored, as in the background of a shell, they stay so.
+        if self._before is not signal.SIG_IGN:
+            signal.signal(signal.SIGINT, self._note)
         return self
 
     def __exit__(self, *_):
