@@ -59,7 +59,7 @@ grown-added b p g ok = go (saysNothing p) refl
   where
     go : (t : Bool) → saysNothing p ≡ t → Grown (cond t (moved b p) (appended b p))
     go true e = grown-moved p g (ok .next)
-    go false e = grown-appended b p g (ok .next) (ok .room e) e (ok .scalar e) (ok .few)
+    go false e = grown-appended b p g (ok .next) (ok .room e) e (ok .allowed e) (ok .few)
 
 -- whatever the line
 pub grown-addLine : (b : Built) (line : List ℕ) → Grown b → Grown (addLine b line)

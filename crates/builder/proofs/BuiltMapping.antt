@@ -1,5 +1,5 @@
--- The mapping of the table of a sequence of lines is what the accepted lines give: "Built tables hold exactly the mappings of the
--- accepted lines."
+-- The mapping of the entries of the table of a sequence of lines is what the accepted lines give: "Built tables hold exactly the
+-- mappings of the accepted lines."
 -- Assumes nothing.
 use mathlib.Core.Path.{_≡_, refl, sym, _∙_, ap}
 use Prim.Native.Nat.{ℕ, _+_, _<_}
@@ -9,7 +9,7 @@ use mathlib.Core.Option.{Option, none, some}
 use mathlib.Core.List.{List, [], _∷_, _++_}
 use lib.Dec.{eqb}
 use borrow.Author.Tests.{eqb-true, eq-eqb, ne-eqb}
-use Rattle.table.specs.Table.{Table, titleOf, partsOf, mappingOf}
+use Rattle.table.specs.Table.{Table, titleOf, entryParts, entryMapping}
 use Rattle.ucd.specs.Lines.{Properties, saysNothing}
 use Rattle.builder.specs.Builder.{Built, moved, appended, added, accepted, addLine, addLines}
 use Rattle.builder.specs.Built.{startOf, cut, Accepted, andGiven, acceptedOf, itself, propertiesOf, propertiesMapping}
@@ -106,9 +106,9 @@ module _ (t : Table) (lines : List (List ℕ)) where
       (tableProperties-above (startOf t) (grown-start t) c (omega arith))
       ∙ sym (propertiesOf-else (acceptedOf (startOf t) lines) c)
 
-  -- a built table, cut to what is used, has the mapping that the accepted lines mean
-  pub mappingOf-built : mappingOf (cut (addLines (startOf t) lines)) ≡ propertiesMapping (acceptedOf (startOf t) lines)
-  mappingOf-built = λ i. record {
+  -- the entries of a built table, cut to what is used, have the mapping that the accepted lines mean
+  pub entryMapping-built : entryMapping (cut (addLines (startOf t) lines)) ≡ propertiesMapping (acceptedOf (startOf t) lines)
+  entryMapping-built = λ i. record {
     title = λ c. builtProperties-built c i .title;
     parts = λ c. builtProperties-built c i .parts;
   }
@@ -176,11 +176,11 @@ acceptedOf-other b (first ∷ lines) c h =
     go (some p) e rest = rw (ne-eqb (p .code) c (h first p (accepted-first b first lines p e))) rest
 
 module _ (t : Table) (lines : List (List ℕ)) where
-  -- of the code point of an accepted line, a built table has the titlecase and the parts that the line gives
+  -- of the code point of an accepted line, the entries of a built table have the titlecase and the parts that the line gives
   pub built-line : (line : List ℕ) (p : Properties)
       → Accepted (startOf t) lines line p
       → (titleOf (cut (addLines (startOf t) lines) .entries) (p .code) ≡ p .title)
-      × (partsOf (cut (addLines (startOf t) lines)) (p .code) ≡ p .parts)
+      × (entryParts (cut (addLines (startOf t) lines)) (p .code) ≡ p .parts)
   built-line line p a =
       let e = builtProperties-among t lines line p a in
       (ap (λ (q : Properties). q .title) e, ap (λ (q : Properties). q .parts) e)
@@ -189,7 +189,7 @@ module _ (t : Table) (lines : List (List ℕ)) where
   pub built-other : (c : ℕ)
       → ((line : List ℕ) (p : Properties) → Accepted (startOf t) lines line p → p .code ≡ c → ⊥)
       → (titleOf (cut (addLines (startOf t) lines) .entries) c ≡ c)
-      × (partsOf (cut (addLines (startOf t) lines)) c ≡ [])
+      × (entryParts (cut (addLines (startOf t) lines)) c ≡ [])
   built-other c h =
       let e = builtProperties-built t lines c ∙ acceptedOf-other (startOf t) lines c h in
       (ap (λ (q : Properties). q .title) e, ap (λ (q : Properties). q .parts) e)

@@ -6,6 +6,7 @@ use mathlib.Core.List.{List, [], _∷_, _++_, map}
 use Prim.Native.Nat.{ℕ}
 use lib.ListN.{replicate}
 use Rattle.terms.specs.Refusals.{Outcome, refused, gives, refusal}
+use Rattle.hangul.specs.Hangul.{syllable}
 use Rattle.table.specs.Layout.{entry, entryNumbers, entryCount, putEntry}
 use Rattle.table.specs.Table.{table}
 use Rattle.ucd.specs.Fields.{cut, digits, codePoint, codePoints, decomposition, codePointOr, titlecase}
@@ -84,6 +85,51 @@ surrogate-mapped =
     []
     (0x30 ∷ 0x30 ∷ 0x34 ∷ 0x31 ∷ [])
 
+-- AC00, no titlecase, no parts: the line that begins the range of the syllables
+abbrev first-syllable : List ℕ
+first-syllable =
+    lineOf
+    (0x41 ∷ 0x43 ∷ 0x30 ∷ 0x30 ∷ [])
+    []
+    []
+    []
+
+-- D7A3, the same: the line that ends it
+abbrev last-syllable : List ℕ
+last-syllable =
+    lineOf
+    (0x44 ∷ 0x37 ∷ 0x41 ∷ 0x33 ∷ [])
+    []
+    []
+    []
+
+-- AC00, parts 1100 and 1161
+abbrev first-syllable-mapped : List ℕ
+first-syllable-mapped =
+    lineOf
+    (0x41 ∷ 0x43 ∷ 0x30 ∷ 0x30 ∷ [])
+    (0x31 ∷ 0x31 ∷ 0x30 ∷ 0x30 ∷ 0x20 ∷ 0x31 ∷ 0x31 ∷ 0x36 ∷ 0x31 ∷ [])
+    []
+    []
+
+-- D7A3, titlecase 0041
+abbrev last-syllable-mapped : List ℕ
+last-syllable-mapped =
+    lineOf
+    (0x44 ∷ 0x37 ∷ 0x41 ∷ 0x33 ∷ [])
+    []
+    []
+    (0x30 ∷ 0x30 ∷ 0x34 ∷ 0x31 ∷ [])
+
+-- 1100, titlecase AC00
+abbrev jamo-mapped : List ℕ
+jamo-mapped =
+    lineOf
+    (0x31 ∷ 0x31 ∷ 0x30 ∷ 0x30 ∷ [])
+    []
+    []
+    (0x41 ∷ 0x43 ∷ 0x30 ∷ 0x30 ∷ [])
+
 -- FB01, the tag <a> with nothing after it
 abbrev tag-alone : List ℕ
 tag-alone =
@@ -119,6 +165,14 @@ rows =
     ∷ (surrogate, gives (0 ∷ 0 ∷ 0xD801 ∷ []))
     -- a surrogate with a mapping
     ∷ (surrogate-mapped, refused (refusal 25 0 0))
+    -- the lines of the range of syllables say nothing
+    ∷ (first-syllable, gives (0 ∷ 0 ∷ 0xAC01 ∷ []))
+    ∷ (last-syllable, gives (0 ∷ 0 ∷ 0xD7A4 ∷ []))
+    -- a syllable with a mapping
+    ∷ (first-syllable-mapped, refused (refusal 25 0 0))
+    ∷ (last-syllable-mapped, refused (refusal 25 0 0))
+    -- a mapping to a syllable
+    ∷ (jamo-mapped, gives (1 ∷ 0 ∷ 0x1101 ∷ []))
     -- a tag with no code point after it
     ∷ (tag-alone, refused (refusal 23 0 0))
     -- a leading zero past four digits
@@ -127,19 +181,19 @@ rows =
 
 pub answers : map (λ r. lineAnswer start (r .0)) rows ≡ map (λ r. r .1) rows
 unfolding addLine lineRefusal lineProperties bind entryCount putEntry
-    cut digits codePoint codePoints decomposition codePointOr titlecase
+    cut digits codePoint codePoints decomposition codePointOr titlecase syllable
 answers = refl
 
 -- a code point below the last
 pub answer-26 : lineAnswer (addLine start e-acute) small-a ≡ refused (refusal 26 0 0)
 unfolding addLine lineRefusal lineProperties bind entryCount putEntry
-    cut digits codePoint codePoints decomposition codePointOr titlecase
+    cut digits codePoint codePoints decomposition codePointOr titlecase syllable
 answer-26 = refl
 
 -- the entry of a line whose titlecase is in field 12 alone
 pub uppercase-stored : addLine start small-a-upper .table ≡ addLine start small-a .table
 unfolding addLine lineRefusal lineProperties bind entryCount putEntry
-    cut digits codePoint codePoints decomposition codePointOr titlecase
+    cut digits codePoint codePoints decomposition codePointOr titlecase syllable
 uppercase-stored = refl
 
 -- two lines: each start is the sum of the counts before it, and the parts stand one after another
@@ -148,5 +202,5 @@ pub two-lines : addLines start (e-acute ∷ ligature ∷ []) .table
     (entryNumbers (entry 0xE9 0xC9 0 2) ++ entryNumbers (entry 0xFB01 0xFB01 2 2))
     (0x65 ∷ 0x301 ∷ 0x66 ∷ 0x69 ∷ [])
 unfolding addLines addLine lineRefusal lineProperties bind entryCount putEntry
-    cut digits codePoint codePoints decomposition codePointOr titlecase
+    cut digits codePoint codePoints decomposition codePointOr titlecase syllable
 two-lines = refl

@@ -27,7 +27,7 @@ use Rattle.ucd.specs.Lines.{Properties, saysNothing}
 use Rattle.builder.specs.Builder.{Built, entryFor, appended, moved}
 use Rattle.builder.specs.Built.{startOf, cut}
 use Rattle.builder.specs.Promises.{UsedFits, NextFits}
-use Rattle.builder.proofs.Refusals.{Scalar}
+use Rattle.builder.proofs.Refusals.{Allowed}
 
 -- a table that the builder has grown
 pub record Grown (b : Built) : Type 0 where
@@ -134,13 +134,14 @@ module _ (b : Built) (p : Properties) (g : Grown b) (next : b .state .next ≤ p
       ap (codeAt (after .entries)) (sym same) ∙ codeAt-last n e (b .table .entries) within in
       lt-leb (codeAt (after .entries) (suc k)) (codeAt (after .entries) k) (omega (arith, below-last k (omega arith)))
 
-  code-last : Scalar p → faultyCode (after .entries) n ≡ false
+  code-last : Allowed p → faultyCode (after .entries) n ≡ false
   code-last s =
       rw (
         codeAt-last n e (b .table .entries) within,
         titleAt-last n e (b .table .entries) within,
         s .code,
         s .title,
+        s .other,
       )
       (above-last n refl)
 
@@ -158,8 +159,8 @@ module _ (b : Built) (p : Properties) (g : Grown b) (next : b .state .next ≤ p
       )
       maps
 
-  -- a mapping above the last one, of scalar numbers, gives a table that is grown
-  pub grown-appended : saysNothing p ≡ false → Scalar p → length (p .parts) ≤ partsMost → Grown (appended b p)
+  -- a mapping above the last one that is allowed gives a table that is grown
+  pub grown-appended : saysNothing p ≡ false → Allowed p → length (p .parts) ≤ partsMost → Grown (appended b p)
   unfolding countsBelow
   grown-appended maps s few = record {
     fits = fits-appended b p room;

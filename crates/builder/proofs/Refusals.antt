@@ -2,7 +2,7 @@
 -- Assumes nothing.
 use mathlib.Core.Path.{_≡_, refl, sym, _∙_}
 use Prim.Native.Nat.{ℕ, _≤_}
-use mathlib.Core.Bool.{true, false, _&&_, _||_}
+use mathlib.Core.Bool.{true, false, _&&_, _||_, not}
 use mathlib.Core.Option.{Option, none, some}
 use mathlib.Core.List.{List, _++_}
 use lib.Dec.{ltb}
@@ -14,10 +14,11 @@ use Rattle.terms.specs.Refusals.{entriesMost, poolMost, partsMost, first, refus
 use Rattle.terms.specs.declared.Refusal.{Refusal}
 use Rattle.terms.proofs.Checks.{or-left, or-right, orElse-neither, when-none, first-append, first-none}
 use Rattle.terms.proofs.Tests.{both}
+use Rattle.hangul.specs.Hangul.{syllable}
 use Rattle.table.specs.Layout.{entryCount}
 use Rattle.ucd.specs.Lines.{Properties, lineProperties, saysNothing, lineCheck, readingChecks, readingRefusal}
 use Rattle.ucd.proofs.Lines.{length-parts, lineProperties-read}
-use Rattle.builder.specs.Builder.{Built, overfull, impossible, surrogate, crowded, propertiesChecks, givenChecks}
+use Rattle.builder.specs.Builder.{Built, overfull, impossible, barred, crowded, propertiesChecks, givenChecks}
 use Rattle.builder.specs.Builder.{lineRefusal, unlessRefused, accepted}
 use Rattle.builder.specs.Promises.{Fits, NextFits, propertiesRefusal}
 
@@ -95,25 +96,28 @@ pub accepted-some : (b : Built) (line : List ℕ) (p : Properties) → accepted 
     → (lineRefusal b line ≡ none) × (lineProperties line ≡ some p)
 accepted-some b line p e = unlessRefused-some (lineRefusal b line) (lineProperties line) p e
 
--- the numbers of properties are scalar
-pub record Scalar (p : Properties) : Type 0 where
+-- the numbers of properties are scalar, and the code point is no syllable
+pub record Allowed (p : Properties) : Type 0 where
   pub code : scalar (p .code) ≡ true
   pub title : scalar (p .title) ≡ true
   pub parts : all scalar (p .parts) ≡ true
+  pub other : syllable (p .code) ≡ false
 
--- those of a mapping that 25 doesn't refuse
-scalars : (p : Properties) → saysNothing p ≡ false → surrogate p ≡ false → Scalar p
-scalars p m e =
-    let t : scalar (p .code) && scalar (p .title) && all scalar (p .parts) ≡ true = not-false _ (rw m at e) in
+-- so it is of a mapping that 25 doesn't refuse
+allowed : (p : Properties) → saysNothing p ≡ false → barred p ≡ false → Allowed p
+allowed p m e =
+    let x = not (scalar (p .code) && scalar (p .title) && all scalar (p .parts)) in
+    let h : x || syllable (p .code) ≡ false = rw m at e in
+    let t = not-false (scalar (p .code) && scalar (p .title) && all scalar (p .parts)) (or-left x (syllable (p .code)) h) in
     let r = both (scalar (p .code) && scalar (p .title)) (all scalar (p .parts)) t in
     let q = both (scalar (p .code)) (scalar (p .title)) (r .0) in
-    record { code = q .0; title = q .1; parts = r .1 }
+    record { code = q .0; title = q .1; parts = r .1; other = or-right x (syllable (p .code)) h }
 
--- what an accepted line gives: it stands above the last line, its parts are few, and with a mapping it is scalar and has room
+-- what an accepted line gives: it stands above the last line, its parts are few, and with a mapping it is allowed and has room
 pub record Passes (b : Built) (p : Properties) : Type 0 where
   pub next : b .state .next ≤ p .code
   pub few : length (p .parts) ≤ partsMost
-  pub scalar : saysNothing p ≡ false → Scalar p
+  pub allowed : saysNothing p ≡ false → Allowed p
   pub room : saysNothing p ≡ false → NextFits b p
 
 -- an accepted line passes
@@ -127,6 +131,6 @@ passes b line p e =
     record {
       next = ltb-false (p .code) (st .next) (when-none _ _ (passed 1));
       few = length-parts line p (a .1);
-      scalar = λ m. scalars p m (when-none _ _ (passed 0));
+      allowed = λ m. allowed p m (when-none _ _ (passed 0));
       room = λ m. overfull-fits _ _ held pool (rw m at (when-none (crowded st held pool p) _ (passed 2)));
     }

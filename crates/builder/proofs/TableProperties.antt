@@ -1,5 +1,5 @@
--- The properties that a grown table gives a code point: its own where the entries are below it; and with one more line, those
--- of the line of its code point, and of the others what they were.
+-- The properties that the entries of a grown table give a code point: its own where they are below it; and with one more line,
+-- those of the line of its code point, and of the others what they were.
 -- Assumes nothing.
 use mathlib.Core.Path.{_≡_, refl, sym, _∙_, ap, ap₂}
 use Prim.Native.Nat.{ℕ, _≤_, _<_}
@@ -14,7 +14,7 @@ use borrow.Author.Tests.{eqb-true}
 use Rattle.terms.specs.Lists.{orElse, when}
 use Rattle.terms.proofs.Tests.{both}
 use Rattle.table.specs.Layout.{Entry, entryCount, startAt, countAt}
-use Rattle.table.specs.Table.{Table, entryOf, titleIn, titleOf, partsIn, partsOf}
+use Rattle.table.specs.Table.{Table, entryOf, titleIn, titleOf, partsIn, entryParts}
 use Rattle.table.proofs.Form.{formed-fits, entryOf-none, entryOf-some}
 use Rattle.table.proofs.Appending.{titleAt-before, startAt-before, countAt-before, titleAt-last, startAt-last, countAt-last}
 use Rattle.table.proofs.Appending.{entryOf-append}
@@ -26,9 +26,9 @@ use Rattle.builder.proofs.Refusals.{Passes}
 use Rattle.builder.proofs.Grown.{Grown, length-pool, pool-appended}
 use Rattle.builder.proofs.BuiltForm.{entryCount-cut, grown-form}
 
--- the properties that a table gives a code point
+-- the properties that the entries of a table give a code point
 abbrev pub tableProperties : Table → ℕ → Properties
-tableProperties t c = record { code = c; title = titleOf (t .entries) c; parts = partsOf t c }
+tableProperties t c = record { code = c; title = titleOf (t .entries) c; parts = entryParts t c }
 
 -- the same by the entry that was found
 abbrev propertiesIn : Table → ℕ → Option ℕ → Properties

@@ -12,6 +12,7 @@ use Rattle.terms.specs.CodePoints.{scalar}
 use Rattle.terms.specs.Lists.{all, putAt}
 use Rattle.terms.specs.Refusals.{entriesMost, poolMost, first, answer, Outcome, refused, gives}
 use Rattle.terms.specs.declared.Refusal.{Refusal}
+use Rattle.hangul.specs.Hangul.{syllable}
 use Rattle.table.specs.Layout.{Entry, entry, entryCount, putEntry}
 use Rattle.table.specs.Table.{Table, table}
 use Rattle.ucd.specs.Lines.{Properties, lineProperties, saysNothing, lineCheck, readingChecks}
@@ -39,9 +40,11 @@ abbrev pub impossible : LineState → ℕ → ℕ → Bool
 impossible st entries pool = overfull (st .«entries_used») (st .«pool_used») entries pool || ltb 0x110000 (st .next)
 
 -- 25: "a line with a mapping has a surrogate in field 0, 5 or 14", or in 12 where that is taken (the code points are at most
--- 10FFFF, so no other is not scalar)
-abbrev pub surrogate : Properties → Bool
-surrogate p = not (saysNothing p) && not (scalar (p .code) && scalar (p .title) && all scalar (p .parts))
+-- 10FFFF, so no other is not scalar); "and a line with a mapping for one", a syllable, "gets 25"
+abbrev pub barred : Properties → Bool
+barred p =
+    not (saysNothing p)
+    && (not (scalar (p .code) && scalar (p .title) && all scalar (p .parts)) || syllable (p .code))
 
 -- 27: "no room for the entry or its parts, or a limit of 3 passed"
 abbrev pub crowded : LineState → ℕ → ℕ → Properties → Bool
@@ -51,7 +54,7 @@ crowded st entries pool p =
 -- 25 to 27: of what a line gives
 abbrev pub propertiesChecks : LineState → ℕ → ℕ → Properties → List (Option Refusal)
 propertiesChecks st entries pool p =
-    lineCheck (surrogate p) 25
+    lineCheck (barred p) 25
     ∷ lineCheck (ltb (p .code) (st .next)) 26
     ∷ lineCheck (crowded st entries pool p) 27
     ∷ []

@@ -9,7 +9,7 @@ ghost use lib.ListN.{length};
 ghost use Rattle.terms.specs.Refusals.{partsMost};
 ghost use Rattle.table.specs.Layout.{entryCount};
 ghost use Rattle.ucd.specs.Lines.{withParts, saysNothing};
-ghost use Rattle.builder.specs.Builder.{built, overfull, impossible, surrogate, crowded};
+ghost use Rattle.builder.specs.Builder.{built, overfull, impossible, barred, crowded};
 ghost use Rattle.builder.specs.Promises.{UsedFits};
 
 // The most that the state's third number can be: one more than the highest code point.
@@ -65,9 +65,9 @@ fn is_overfull(used: usize, filled: usize, entries: &[u32], pool: &[u32]) -> boo
     terms::POOL_MOST < filled
 }
 
-// Whether a line with a mapping has a surrogate.
-pub fn has_surrogate(simple: SimpleProperties, parts: &[u32]) -> bool
-    ensures { λ r. ⌜ r ≡ surrogate (withParts simple (now (parts .entry))) ⌝ }
+// Whether a line with a mapping has a surrogate, or is for a syllable.
+pub fn is_barred(simple: SimpleProperties, parts: &[u32]) -> bool
+    ensures { λ r. ⌜ r ≡ barred (withParts simple (now (parts .entry))) ⌝ }
 {
     if says_nothing(simple, parts) {
         return false;
@@ -78,6 +78,9 @@ pub fn has_surrogate(simple: SimpleProperties, parts: &[u32]) -> bool
     }
     let title = simple.title;
     if !terms::is_scalar(title.0) {
+        return true;
+    }
+    if hangul::is_syllable(code) {
         return true;
     }
     let mut i = 0;

@@ -59,7 +59,7 @@ fn add_given(
     ensures { λ r. ⌜ AddedGiven (built state (now (entries .entry)) (now (pool .entry))) (withParts simple (now (parts .entry)))
         r (now (entries .exit)) (now (pool .exit)) ⌝ }
 {
-    if checks::has_surrogate(simple, parts) {
+    if checks::is_barred(simple, parts) {
         return refused(terms::REFUSED_SURROGATE, state);
     }
     let c = simple.code;

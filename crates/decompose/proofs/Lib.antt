@@ -4,8 +4,10 @@ pub mod Unfolds
 pub mod Whole
 pub mod Bounds
 pub mod Measuring
+pub mod Syllables
 pub mod Unfolding
 pub mod Walk
 pub mod Expansion
 pub mod Demand3
+pub mod SyllableSteps
 pub mod Unreached

@@ -45,7 +45,7 @@ unfolding each
 measuring-start = record { passed = omega arith; level = refl; size = refl; fits = omega arith }
 
 -- a measurement that fits: within the levels, and how many code points
-measured-some : (m : Mapping) (n room c k : ℕ) → measured m n room c ≡ some k
+pub measured-some : (m : Mapping) (n room c k : ℕ) → measured m n room c ≡ some k
     → (within m n c ≡ true) × (length (full m n c) ≡ k) × (k ≤ room)
 measured-some m n room c k e = go (within m n c) (leb (length (full m n c)) room) refl refl e
   where

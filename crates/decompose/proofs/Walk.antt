@@ -14,7 +14,10 @@ use Rattle.terms.specs.Lists.{all, empty, each, total, when, over}
 use Rattle.terms.specs.Refusals.{levelsMost, fullMost}
 use Rattle.terms.proofs.Lists.{all-at, each-take-more, length-each-take}
 use Rattle.terms.proofs.Tests.{both}
+use Rattle.hangul.specs.Hangul.{syllable, syllableParts}
 use Rattle.table.specs.Mapping.{Mapping}
+use Rattle.table.specs.Table.{Table, mappingOf}
+use Rattle.table.proofs.Form.{partsOf-syllable}
 use Rattle.utf8.specs.Utf8.{encode, encodes}
 use Rattle.utf8.specs.Promises.{Written}
 use Rattle.decompose.specs.Levels.{within, full, asks}
@@ -65,6 +68,11 @@ filled-whole m n c e slice k after w = record {
 -- parts were found
 pub parts-some : {m : Mapping} {c : ℕ} {ps : List ℕ} → ps ≡ m .parts c → (length ps ≡ 0 → ⊥) → Split m c ps
 parts-some e h = record { parts = e; some = omega arith }
+
+-- a syllable has its jamo, over a table
+pub syllable-split : (t : Table) {c : ℕ} {ps : List ℕ} → syllable c ≡ true → ps ≡ syllableParts c → Split (mappingOf t) c ps
+unfolding syllableParts
+syllable-split t {c} is e = record { parts = e ∙ sym (partsOf-syllable t c is); some = rw e (omega arith) }
 
 -- the full decompositions of parts, one after another
 abbrev pub fulls : Mapping → ℕ → List ℕ → List ℕ

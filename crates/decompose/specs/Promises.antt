@@ -1,7 +1,7 @@
 -- What the contracts of the crate say with the definitions of the other files.
 -- Assumes nothing.
 use mathlib.Core.Path.{_≡_}
-use Prim.Native.Nat.{ℕ, _≤_, _<_}
+use Prim.Native.Nat.{ℕ, zero, suc, max, _+_, _-_, _≤_, _<_}
 use mathlib.Core.Bool.{true, _&&_}
 use mathlib.Core.Option.{Option, none, some}
 use mathlib.Core.List.{List}
@@ -20,6 +20,21 @@ use Rattle.decompose.specs.declared.Unfolded.{Unfolded}
 -- how many code points a code point unfolds into, if within n levels and into at most `room`
 abbrev pub measured : Mapping → ℕ → ℕ → ℕ → Option ℕ
 measured m n room c = when (within m n c && leb (length (full m n c)) room) (length (full m n c))
+
+-- the larger of two measurements, if both fit
+abbrev pub larger : Option ℕ → Option ℕ → Option ℕ
+larger none b = none
+larger (some x) none = none
+larger (some x) (some y) = some (max x y)
+
+-- the most levels of a jamo in an accepted table: a syllable has one more
+abbrev pub jamoLevels : ℕ
+jamoLevels = levelsMost - 1
+
+-- the largest measurement of n jamo from `from` on, if each is within those levels and has at most `room` code points
+unfoldable pub largest : Mapping → ℕ → ℕ → ℕ → Option ℕ
+largest m room from zero = some 0
+largest m room from (suc n) = larger (largest m room from n) (measured m jamoLevels room (from + n))
 
 -- the number of a measurement
 abbrev pub measuredSize : Measurement → Option ℕ

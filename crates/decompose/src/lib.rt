@@ -19,6 +19,7 @@ ghost use lib.ListN.{length};
 ghost use Rattle.terms.specs.CodePoints.{scalar};
 ghost use Rattle.terms.specs.Refusals.{checkOutcome};
 ghost use Rattle.utf8.specs.Utf8.{encodes};
+ghost use Rattle.hangul.specs.Promises.{jamoOf};
 ghost use Rattle.table.specs.Layout.{titleAt};
 ghost use Rattle.table.specs.Table.{table, formRefusal, entryOf, partsOf, mappingOf};
 ghost use Rattle.decompose.specs.Levels.{full};
@@ -56,14 +57,11 @@ pub fn size_expansion(c: CodePoint, entries: &[u32], pool: &[u32]) -> Unfolded
     ensures { λ r. ⌜ ExpansionCounted (mappingOf (table (now (entries .entry)) (now (pool .entry)))) (c .0) r ⌝ }
 {
     let Place::At(i) = table::find_entry(entries, c) else {
-        // A code point without an entry maps to itself: the two asks are known without a second search.
-        return Unfolded {
-            octets: utf8::octet_count(c),
-            asks: 2,
-        };
+        return size_unlisted(c, entries, pool);
     };
     let title = layout::title_at(entries, i);
-    let parts = title_parts(c, i, entries, pool);
+    let jamo = hangul::jamo_of(title);
+    let parts = title_parts(c, i, entries, pool, &jamo);
     if parts.len() == 0 {
         let octets = utf8::octet_count(title);
         return Unfolded { octets, asks: 2 };
@@ -84,11 +82,11 @@ pub fn write_expansion(c: CodePoint, entries: &[u32], pool: &[u32], out: &mut [u
         (now (out .entry)) r (now (out .exit)) ⌝ }
 {
     let Place::At(i) = table::find_entry(entries, c) else {
-        let octets = utf8::write_character(c, out);
-        return Unfolded { octets, asks: 2 };
+        return write_unlisted(c, entries, pool, out);
     };
     let title = layout::title_at(entries, i);
-    let parts = title_parts(c, i, entries, pool);
+    let jamo = hangul::jamo_of(title);
+    let parts = title_parts(c, i, entries, pool, &jamo);
     if parts.len() == 0 {
         let octets = utf8::write_character(title, out);
         return Unfolded { octets, asks: 2 };
@@ -100,17 +98,68 @@ pub fn write_expansion(c: CodePoint, entries: &[u32], pool: &[u32], out: &mut [u
     }
 }
 
+// The octets of the expansion of a code point that has no entry, and the lookups for it: it is its own titlecase.
+fn size_unlisted(c: CodePoint, entries: &[u32], pool: &[u32]) -> Unfolded
+    requires { ⌜ tableRefusal (table (now entries) (now pool)) ≡ none ⌝ }
+    requires { ⌜ entryOf (now entries) (c .0) ≡ none ⌝ }
+    ensures { λ r. ⌜ ExpansionCounted (mappingOf (table (now (entries .entry)) (now (pool .entry)))) (c .0) r ⌝ }
+{
+    if !hangul::is_syllable(c) {
+        // It stays as it is: the two asks are known without a second search.
+        return Unfolded {
+            octets: utf8::octet_count(c),
+            asks: 2,
+        };
+    }
+    let jamo = hangul::jamo_of(c);
+    let parts = hangul::parts_among(c, &jamo);
+    let unfolded = size_unfolded(terms::LEVELS_MOST, c, parts, entries, pool);
+    Unfolded {
+        octets: unfolded.octets,
+        asks: unfolded.asks + 1,
+    }
+}
+
+// Writes the expansion of a code point that has no entry at the start of a slice that has room for it.
+fn write_unlisted(c: CodePoint, entries: &[u32], pool: &[u32], out: &mut [u8]) -> Unfolded
+    requires { ⌜ tableRefusal (table (now entries) (now pool)) ≡ none ⌝ }
+    requires { ⌜ entryOf (now entries) (c .0) ≡ none ⌝ }
+    requires { ⌜ scalar (c .0) ≡ true ⌝ }
+    requires { ⌜ length (expanded (mappingOf (table (now entries) (now pool))) (c .0)) ≤ length (now out) ⌝ }
+    ensures { λ r. ⌜ ExpansionFilled (mappingOf (table (now (entries .entry)) (now (pool .entry)))) (c .0)
+        (now (out .entry)) r (now (out .exit)) ⌝ }
+{
+    if !hangul::is_syllable(c) {
+        let octets = utf8::write_character(c, out);
+        return Unfolded { octets, asks: 2 };
+    }
+    let jamo = hangul::jamo_of(c);
+    let parts = hangul::parts_among(c, &jamo);
+    let unfolded = write_unfolded(terms::LEVELS_MOST, c, parts, entries, pool, out);
+    Unfolded {
+        octets: unfolded.octets,
+        asks: unfolded.asks + 1,
+    }
+}
+
 // The decomposition of the titlecase of a code point's entry: what the entry itself says, if that is the code point.
-fn title_parts<'a>(c: CodePoint, i: usize, entries: &[u32], pool: &'a [u32]) -> &'a [u32]
+fn title_parts<'a>(
+    c: CodePoint,
+    i: usize,
+    entries: &[u32],
+    pool: &'a [u32],
+    jamo: &'a [u32],
+) -> &'a [u32]
     requires { ⌜ formRefusal (table (now entries) (now pool)) ≡ none ⌝ }
     requires { ⌜ entryOf (now entries) (c .0) ≡ some i ⌝ }
+    requires { ⌜ now jamo ≡ jamoOf (titleAt (now entries) i) ⌝ }
     ensures { λ r. ⌜ now r ≡ partsOf (table (now (entries .entry)) (now (pool .entry))) (titleAt (now (entries .entry)) i) ⌝ }
 {
     let title = layout::title_at(entries, i);
     if title.0 == c.0 {
         return table::parts_at(entries, pool, i);
     }
-    table::parts_of(entries, pool, title)
+    table::parts_of(entries, pool, jamo, title)
 }
 
 // The octets of the full decomposition of a code point that has these parts, and the asks of its unfolding.
@@ -131,7 +180,8 @@ fn size_unfolded(
     let mut i = 0;
     while i < parts.len() {
         let part = CodePoint(parts[i]);
-        let inner = table::parts_of(entries, pool, part);
+        let jamo = hangul::jamo_of(part);
+        let inner = table::parts_of(entries, pool, &jamo, part);
         // Most parts are whole, and a call costs more than counting one.
         if inner.len() == 0 {
             octets += utf8::octet_count(part);
@@ -171,7 +221,8 @@ fn write_unfolded(
     let mut i = 0;
     while i < parts.len() {
         let part = CodePoint(parts[i]);
-        let inner = table::parts_of(entries, pool, part);
+        let jamo = hangul::jamo_of(part);
+        let inner = table::parts_of(entries, pool, &jamo, part);
         // Most parts are whole, and a call costs more than writing one.
         if inner.len() == 0 {
             let octets = utf8::write_character(part, &mut out[at..]);

@@ -24,7 +24,7 @@ use Rattle.terms.proofs.Injective.{checkOutcome-inj}
 use Rattle.table.specs.Layout.{entryCount}
 use Rattle.table.specs.Mapping.{Mapping}
 use Rattle.table.specs.Table.{Table, refusedAt, formChecks, formRefusal, mappingOf}
-use Rattle.decompose.specs.TableCheck.{levelFault, tableRefusal, tableAnswer, UnfoldsWell, LowestUnsound}
+use Rattle.decompose.specs.TableCheck.{levelFault, tableRefusal, tableAnswer, UnfoldsWell}
 use Rattle.decompose.specs.Levels.{Level, Leads}
 use Rattle.decompose.proofs.Cycles.{cycle-no-level, into-cycle-no-level}
 use Rattle.keys.specs.Keys.{prepared, roomFor}
@@ -39,8 +39,8 @@ use Rattle.builder.proofs.Injective.{lineOutcome-inj}
 use Rattle.builder.proofs.Adding.{addLine-refused}
 use Rattle.demands.specs.Demands.{FirstApplies, tableChecks, callChecks, CollationNumber}
 use Rattle.demands.specs.Faults.{Clear, FirstFault, LowestAt, WrongSize, WrongCode, WrongEntries, WrongNumber}
-use Rattle.demands.specs.Faults.{Impossible, WrongSemicolons, MalformedField, SaysSurrogate, SaysEarlier}
-use Rattle.demands.specs.Faults.{SaysTooMuch, fault3, fault4, fault5, fault6, fault7, fault20, fault21, fault22}
+use Rattle.demands.specs.Faults.{Impossible, WrongSemicolons, MalformedField, SaysBarred, SaysEarlier}
+use Rattle.demands.specs.Faults.{SaysTooMuch, Unsound, fault3, fault4, fault5, fault6, fault7, fault20, fault21, fault22}
 use Rattle.demands.specs.Faults.{fault23, fault25, fault26, fault28, fault29, formFaults}
 use Rattle.demands.specs.Faults.{tableFaults, readingFaults, lineFaults}
 use Rattle.demands.proofs.FaultRows.{row-exactly, row-clear, number-at, plain-at}
@@ -166,8 +166,9 @@ module _ (t : Table) where
   unfolding formRefusal
   form-exactly = row-clear (formChecks t) (formFaults t) (form-renders t)
 
-  -- 7 exactly when the form holds, entry i does not unfold well and every lower one does
-  pub number-7 : (i : ℕ) → (tableRefusal t ≡ some (refusal 7 0 i)) ↔ ((formRefusal t ≡ none) × LowestUnsound t i)
+  -- 7 exactly when the form holds, entry i does not unfold well and every lower one does; or every entry does, some syllable
+  -- does not and i is how many entries there are
+  pub number-7 : (i : ℕ) → (tableRefusal t ≡ some (refusal 7 0 i)) ↔ ((formRefusal t ≡ none) × Unsound t i)
   number-7 i =
       let row = Iff·trans (table-row 7 i) (number-at (tableFaults t) 4 (fault7 t) refl refl refl i) in (
         λ e. (form-exactly .1 (row .0 e .0), row .0 e .1),
@@ -230,9 +231,9 @@ module _ (b : Built) (line : List ℕ) where
       × MalformedField 14 line)
   number-24 = Iff·trans (line-first 24 0) (plain-at (lineFaults b line) 6 24 (MalformedField 14 line) refl refl refl)
 
-  -- 25: the line has a mapping, and one of the code points that it says is a surrogate
-  pub number-25 : (lineRefusal b line ≡ some (refusal 25 0 0)) ↔ (Clear (fault28 b ∷ readingFaults line) × SaysSurrogate line)
-  number-25 = Iff·trans (line-first 25 0) (plain-at (lineFaults b line) 7 25 (SaysSurrogate line) refl refl refl)
+  -- 25: the line has a mapping, and one of the code points that it says is a surrogate, or the one that it maps is a syllable
+  pub number-25 : (lineRefusal b line ≡ some (refusal 25 0 0)) ↔ (Clear (fault28 b ∷ readingFaults line) × SaysBarred line)
+  number-25 = Iff·trans (line-first 25 0) (plain-at (lineFaults b line) 7 25 (SaysBarred line) refl refl refl)
 
   -- 26: the code point that it says is not above the last
   pub number-26 : (lineRefusal b line ≡ some (refusal 26 0 0))

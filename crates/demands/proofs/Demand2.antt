@@ -19,8 +19,10 @@ use Rattle.terms.specs.declared.Collation.the-variants.{Octet, AsciiCasemap, Un
 use Rattle.terms.specs.declared.KeyPosition.{KeyPosition}
 use Rattle.terms.specs.declared.TextPosition.{TextPosition}
 use Rattle.utf8.specs.Utf8.{Character, characters}
+use Rattle.hangul.specs.Hangul.{syllable, syllableParts}
 use Rattle.table.specs.Mapping.{Mapping}
-use Rattle.table.specs.Table.{Table, formRefusal, mappingOf}
+use Rattle.table.specs.Table.{Table, formRefusal, entryMapping, mappingOf}
+use Rattle.table.proofs.Form.{partsOf-syllable, partsOf-other, formed-title-syllable}
 use Rattle.decompose.specs.Steps.{StepsGive, stepsKey, stepsLookups}
 use Rattle.decompose.specs.TableCheck.{tableRefusal}
 use Rattle.decompose.proofs.Demand3.{accepted-steps}
@@ -50,12 +52,15 @@ use Rattle.ucd.proofs.Lines.{lineProperties-exactly}
 use Rattle.builder.specs.Builder.{Built}
 use Rattle.builder.specs.Built.{startOf, cut, acceptedOf}
 use Rattle.builder.proofs.BuiltForm.{built-form}
-use Rattle.builder.proofs.BuiltMapping.{mappingOf-built, built-line, built-other}
+use Rattle.builder.proofs.BuiltMapping.{entryMapping-built, built-line, built-other}
 use Rattle.demands.specs.Demands.{Precedes, OccursAt, Hit, Grows, HoldsSaid}
+use Rattle.demands.specs.Faults.{Syllable}
 use Rattle.demands.proofs.Ordering.{less-exactly, greater-exactly}
 use Rattle.demands.proofs.Hits.{match-exactly, none-exactly, match-empty, run-same, run-covers, run-least}
 use Rattle.demands.proofs.Growing.{grows-is, grows-says, in-accepted, accepted-in, in-whole, in-says}
 use Rattle.demands.proofs.Preparing.{shows}
+use Rattle.demands.proofs.Reflect.{false-exactly}
+use Rattle.demands.proofs.TableFaults.{syllable-exactly}
 
 -- ---- "Keys, equality, order and substring are RFC 4790's and RFC 5051's over the lent table."
 
@@ -201,15 +206,17 @@ module _ {t : Table} {l n : Lent} {r : Sought} {after : List (List ℕ)}
 
 -- ---- "Tables built from data lines hold exactly the mappings of the lines accepted."
 
+-- The sentence speaks of a table's entries; the syllables map by rule, whatever the lines are: `built-syllable`.
+
 -- calls of `add_line` have grown a table from the fresh state, over any two slices; `accepted` are the lines that they
 -- answered Taken
 module _ {t : Table} {lines accepted : List (List ℕ)} {b : Built} (g : Grows (startOf t) lines accepted b) where
-  -- cut to what is used, its mapping is that of what the accepted lines say
-  pub built-holds : HoldsSaid (mappingOf (cut b)) accepted
+  -- cut to what is used, its entries have the mapping of what the accepted lines say
+  pub built-holds : HoldsSaid (entryMapping (cut b)) accepted
   built-holds = record {
     said = acceptedOf (startOf t) lines;
     says = grows-says g;
-    holds = rw (grows-is g) (mappingOf-built t lines);
+    holds = rw (grows-is g) (entryMapping-built t lines);
   }
 
   -- every accepted line has its 15 fields, so that `field` says what stands there
@@ -220,15 +227,15 @@ module _ {t : Table} {lines accepted : List (List ℕ)} {b : Built} (g : Grows (
   pub built-says : (line : List ℕ) → In line accepted → (p : Properties) × LineSays line p
   built-says = in-says g
 
-  -- of the code point of an accepted line the table has that line's titlecase and decomposition
+  -- of the code point of an accepted line they have that line's titlecase and decomposition
   pub built-gives : (line : List ℕ) (p : Properties) → In line accepted → LineSays line p
-      → (mappingOf (cut b) .title (p .code) ≡ p .title) × (mappingOf (cut b) .parts (p .code) ≡ p .parts)
+      → (entryMapping (cut b) .title (p .code) ≡ p .title) × (entryMapping (cut b) .parts (p .code) ≡ p .parts)
   built-gives line p i s =
       rw (grows-is g) (built-line t lines line p (in-accepted (lineProperties-exactly line p .1 s) g i))
 
   -- and of a code point that no accepted line has in field 0, nothing
   pub built-nothing-else : (c : ℕ) → ((line : List ℕ) → In line accepted → codePoint (field 0 line) ≡ some c → ⊥)
-      → (mappingOf (cut b) .title c ≡ c) × (mappingOf (cut b) .parts c ≡ [])
+      → (entryMapping (cut b) .title c ≡ c) × (entryMapping (cut b) .parts c ≡ [])
   built-nothing-else c none-has =
       rw (grows-is g)
       (built-other t lines c
@@ -237,3 +244,14 @@ module _ {t : Table} {lines accepted : List (List ℕ)} {b : Built} (g : Grows (
   -- it passes checks 3 to 6
   pub built-formed : formRefusal (cut b) ≡ none
   built-formed = rw (grows-is g) (built-form t lines)
+
+  -- what it means of a code point that is no syllable is what its entries say
+  pub built-entries : (c : ℕ) → (Syllable c → ⊥)
+      → (mappingOf (cut b) .title c ≡ entryMapping (cut b) .title c)
+      × (mappingOf (cut b) .parts c ≡ entryMapping (cut b) .parts c)
+  built-entries c other = (refl, partsOf-other (cut b) c (false-exactly (syllable c) (syllable-exactly c) .1 other))
+
+  -- a syllable, of which they say nothing, maps by rule: it is its own titlecase, and its parts are its jamo (request 4)
+  pub built-syllable : (c : ℕ) → Syllable c → (mappingOf (cut b) .title c ≡ c) × (mappingOf (cut b) .parts c ≡ syllableParts c)
+  built-syllable c s =
+      let is = syllable-exactly c .1 s in (formed-title-syllable (cut b) built-formed c is, partsOf-syllable (cut b) c is)

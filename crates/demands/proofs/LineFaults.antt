@@ -3,7 +3,7 @@
 use mathlib.Core.Path.{_≡_, refl, sym, ap, _∙_}
 use Prim.Native.Nat.{ℕ, _+_}
 use native.Mathlib.Omega.{arith}
-use mathlib.Core.Bool.{Bool, true, false, not, _&&_}
+use mathlib.Core.Bool.{Bool, true, false, not, _&&_, _||_}
 use mathlib.Core.Logic.{_↔_}
 use mathlib.Core.Option.{Option, none, some}
 use mathlib.Core.List.{List, [], _∷_, _++_}
@@ -11,25 +11,26 @@ use lib.Dec.{leb, ltb, eqb}
 use lib.ListN.{length}
 use borrow.Author.Tests.{not-true, leb-true}
 use Rattle.terms.specs.CodePoints.{scalar}
-use Rattle.terms.specs.Lists.{all, empty, there, In}
+use Rattle.terms.specs.Lists.{all, empty, there}
 use Rattle.terms.specs.Refusals.{refusal, first}
 use Rattle.terms.specs.declared.Refusal.{Refusal}
 use Rattle.terms.proofs.Checks.{first-append}
 use Rattle.terms.proofs.Tests.{both, join, none-some}
+use Rattle.hangul.specs.Hangul.{syllable}
 use Rattle.table.specs.Layout.{entryCount}
 use Rattle.table.specs.Table.{Table}
 use Rattle.ucd.specs.Fields.{fields, field, codePoint, decomposition, optional}
 use Rattle.ucd.specs.Lines.{Properties, LineSays, lineProperties, saysNothing, lineCheck, readingChecks, readingRefusal}
 use Rattle.ucd.proofs.Cutting.{length-cut}
 use Rattle.ucd.proofs.Lines.{lineProperties-read, lineProperties-exactly, says-most}
-use Rattle.builder.specs.Builder.{Built, overfull, impossible, surrogate, crowded, givenChecks, lineRefusal}
-use Rattle.demands.specs.Faults.{plain, Surrogate, TooMany, Impossible, WrongSemicolons, MalformedField, HasMapping}
-use Rattle.demands.specs.Faults.{SaysSurrogate, SaysEarlier, SaysTooMuch, FirstFault, Clear, readingFaults, lineFaults}
+use Rattle.builder.specs.Builder.{Built, overfull, impossible, barred, crowded, givenChecks, lineRefusal}
+use Rattle.demands.specs.Faults.{plain, TooMany, Impossible, WrongSemicolons, MalformedField, HasMapping, HasSurrogate}
+use Rattle.demands.specs.Faults.{Barred, SaysBarred, SaysEarlier, SaysTooMuch, FirstFault, Clear, readingFaults, lineFaults}
 use Rattle.demands.specs.Faults.{fault25, fault26, fault27, fault28}
 use Rattle.demands.proofs.Reflect.{ltb-exactly, eqb-exactly, and-exactly, or-exactly, or4-exactly, not-exactly}
 use Rattle.demands.proofs.Reflect.{nor-exactly, gone-exactly, empty-exactly, all-fails, all-in}
 use Rattle.demands.proofs.FaultRows.{Renders, RendersEach, renders-plain, renders-append, row-exactly, row-clear}
-use Rattle.demands.proofs.TableFaults.{scalar-exactly, unscalar-exactly}
+use Rattle.demands.proofs.TableFaults.{scalar-exactly, unscalar-exactly, syllable-exactly}
 
 -- ---- 28, 20 to 24 and 29
 
@@ -100,8 +101,12 @@ mapping-exactly p =
 abbrev said-codes : Properties → List ℕ
 said-codes p = p .code ∷ p .title ∷ p .parts
 
--- the three tests of 25 are one test of all
-all-three : (p : Properties) → (scalar (p .code) && scalar (p .title) && all scalar (p .parts)) ≡ all scalar (said-codes p)
+-- the three tests of 25
+abbrev said-scalar : Properties → Bool
+said-scalar p = scalar (p .code) && scalar (p .title) && all scalar (p .parts)
+
+-- they are one test of all
+all-three : (p : Properties) → said-scalar p ≡ all scalar (said-codes p)
 all-three p = go (scalar (p .code)) (scalar (p .title))
   where
     go : (a b : Bool) → (a && b && all scalar (p .parts)) ≡ (a && (b && all scalar (p .parts)))
@@ -110,26 +115,29 @@ all-three p = go (scalar (p .code)) (scalar (p .title))
 
 -- of a line that says p: one of its code points is a surrogate
 surrogate-said : (line : List ℕ) (p : Properties) → LineSays line p
-    → (not (scalar (p .code) && scalar (p .title) && all scalar (p .parts)) ≡ true) ↔
-    ((c : ℕ) × In c (said-codes p) × Surrogate c)
+    → (not (said-scalar p) ≡ true) ↔ HasSurrogate (said-codes p)
 surrogate-said line p s = (found, given)
   where
-    found : not (scalar (p .code) && scalar (p .title) && all scalar (p .parts)) ≡ true
-        → (c : ℕ) × In c (said-codes p) × Surrogate c
+    found : not (said-scalar p) ≡ true → HasSurrogate (said-codes p)
     found e =
         let one = all-fails scalar (said-codes p) (sym (all-three p) ∙ not-true _ e) in
         let c = one .0 in
         let low = leb-true c 0x10FFFF (all-in (λ c. leb c 0x10FFFF) (said-codes p) (says-most line p s) c (one .1)) in
-        (c, one .1, unscalar-exactly c low .0 (one .2))
+        record { code = c; among = one .1; surrogate = unscalar-exactly c low .0 (one .2) }
 
-    given : ((c : ℕ) × In c (said-codes p) × Surrogate c)
-        → not (scalar (p .code) && scalar (p .title) && all scalar (p .parts)) ≡ true
+    given : HasSurrogate (said-codes p) → not (said-scalar p) ≡ true
     given h = go (all scalar (said-codes p)) refl
       where
-        go : (t : Bool) → all scalar (said-codes p) ≡ t
-            → not (scalar (p .code) && scalar (p .title) && all scalar (p .parts)) ≡ true
+        go : (t : Bool) → all scalar (said-codes p) ≡ t → not (said-scalar p) ≡ true
         go false e = ap not (all-three p ∙ e)
-        go true e = absurd (scalar-exactly (h .0) .0 (all-in scalar (said-codes p) e (h .0) (h .1)) .1 (h .2))
+        go true e =
+            absurd (scalar-exactly (h .code) .0 (all-in scalar (said-codes p) e (h .code) (h .among)) .1 (h .surrogate))
+
+-- or its code point is a syllable
+barred-said : (line : List ℕ) (p : Properties) → LineSays line p
+    → (not (said-scalar p) || syllable (p .code) ≡ true) ↔ Barred (p .code) (p .title) (p .parts)
+barred-said line p s =
+    or-exactly (not (said-scalar p)) (syllable (p .code)) (surrogate-said line p s) (syllable-exactly (p .code))
 
 -- a check of what a line gives, if it gives something
 abbrev over-given : (Properties → Bool) → ℕ → Option Properties → Option Refusal
@@ -171,7 +179,7 @@ module _ (b : Built) (line : List ℕ) where
   -- 25 to 27 as checks of what is given, if something is
   abbrev given-row : Option Properties → List (Option Refusal)
   given-row o =
-      over-given surrogate 25 o
+      over-given barred 25 o
       ∷ over-given (λ p. ltb (p .code) (b .state .next)) 26 o
       ∷ over-given (λ p. crowded (b .state) n m p) 27 o
       ∷ []
@@ -180,18 +188,17 @@ module _ (b : Built) (line : List ℕ) where
   first-given none = refl
   first-given (some p) = refl
 
-  surrogate-renders : Renders (over-given surrogate 25 (lineProperties line)) (plain 25 (SaysSurrogate line))
-  surrogate-renders =
-      given-renders line surrogate 25
+  barred-renders : Renders (over-given barred 25 (lineProperties line)) (plain 25 (SaysBarred line))
+  barred-renders =
+      given-renders line barred 25
       (λ p s e.
       (let h = both (not (saysNothing p)) _ e in
-      let c = surrogate-said line p s .0 (h .1) in
-      record { said = p; says = s; mapping = mapping-exactly p .0 (h .0); code = c .0; among = c .1; surrogate = c .2 }))
+      record { said = p; says = s; mapping = mapping-exactly p .0 (h .0); barred = barred-said line p s .0 (h .1) }))
       (λ a. (
         a .said,
         a .says,
         join (not (saysNothing (a .said))) _ (mapping-exactly (a .said) .1 (a .mapping))
-            (surrogate-said line (a .said) (a .says) .1 (a .code, a .among, a .surrogate)),
+            (barred-said line (a .said) (a .says) .1 (a .barred)),
       ))
 
   earlier-renders : Renders (over-given (λ p. ltb (p .code) (b .state .next)) 26 (lineProperties line))
@@ -232,7 +239,7 @@ module _ (b : Built) (line : List ℕ) where
       (given-row (lineProperties line))
       (fault25 line ∷ fault26 b line ∷ fault27 b line ∷ [])
       (renders-plain _ 28 (impossible-exactly b), reading-renders line)
-      (surrogate-renders, (earlier-renders, (crowded-renders, tt)))
+      (barred-renders, (earlier-renders, (crowded-renders, tt)))
 
   row-refusal : lineRefusal b line ≡ first row
   unfolding lineRefusal

@@ -15,7 +15,7 @@ use Rattle.ucd.proofs.Titlecase.{titlecase-filled, titlecase-upper, titlecase-n
 use Rattle.builder.specs.Builder.{Built, lineRefusal}
 use Rattle.builder.specs.Built.{startOf, cut}
 use Rattle.demands.specs.Demands.{Grows}
-use Rattle.demands.specs.Faults.{Clear, SaysSurrogate, MapsSurrogate, fault28, readingFaults}
+use Rattle.demands.specs.Faults.{Clear, SaysBarred, MapsBarred, fault28, readingFaults}
 use Rattle.demands.proofs.LineFaults.{reading-says}
 use Rattle.demands.proofs.Demand1.{number-25}
 use Rattle.demands.proofs.Demand2.{built-says, built-gives}
@@ -73,27 +73,26 @@ module _ {t : Table} {lines accepted : List (List ℕ)} {b : Built} (g : Grows (
 
 -- ---- "and for 25 too."
 
--- a line with code point c and parts ps gets 25 exactly when none before it applies, and it maps c so, with a surrogate
+-- a line with code point c and parts ps gets 25 exactly when none before it applies, and it maps c so, with a surrogate or, by
+-- request 4, where c is a syllable
 module _ (b : Built) (line : List ℕ) {c : ℕ} {ps : List ℕ}
     (code : codePoint (field 0 line) ≡ some c) (parts : decomposition (field 5 line) ≡ some ps) where
   -- by the titlecase that the line says
   taken : (t : ℕ) → ((p : Properties) → LineSays line p → p .title ≡ t)
-      → (lineRefusal b line ≡ some (refusal 25 0 0)) ↔ (Clear (fault28 b ∷ readingFaults line) × MapsSurrogate c t ps)
+      → (lineRefusal b line ≡ some (refusal 25 0 0)) ↔ (Clear (fault28 b ∷ readingFaults line) × MapsBarred c t ps)
   taken t title = Iff·trans (number-25 b line) (λ h. (h .0, by-fields (h .1)), λ h. (h .0, by-line (h .0 .1) (h .1)))
     where
-      by-fields : SaysSurrogate line → MapsSurrogate c t ps
+      by-fields : SaysBarred line → MapsBarred c t ps
       by-fields h =
           let is = code-said (h .says) code in
           let cased = title (h .said) (h .says) in
           let listed = parts-said (h .says) parts in
           record {
             mapping = λ e. h .mapping (cased ∙ e .0 ∙ sym is, listed ∙ e .1);
-            code = h .code;
-            among = rw (is, cased, listed) at (h .among);
-            surrogate = h .surrogate;
+            barred = rw (is, cased, listed) at (h .barred);
           }
 
-      by-line : Clear (readingFaults line) → MapsSurrogate c t ps → SaysSurrogate line
+      by-line : Clear (readingFaults line) → MapsBarred c t ps → SaysBarred line
       by-line clear h =
           let p = reading-says line clear in
           let is = code-said (p .1) code in
@@ -103,25 +102,23 @@ module _ (b : Built) (line : List ℕ) {c : ℕ} {ps : List ℕ}
             said = p .0;
             says = p .1;
             mapping = λ e. h .mapping (sym cased ∙ e .0 ∙ is, sym listed ∙ e .1);
-            code = h .code;
-            among = rw (is, cased, listed) (h .among);
-            surrogate = h .surrogate;
+            barred = rw (is, cased, listed) (h .barred);
           }
 
   -- to field 12's, where field 14 is empty
-  pub surrogate-uppercase : (u : ℕ) → field 14 line ≡ [] → codePoint (field 12 line) ≡ some u
-      → (lineRefusal b line ≡ some (refusal 25 0 0)) ↔ (Clear (fault28 b ∷ readingFaults line) × MapsSurrogate c u ps)
-  surrogate-uppercase u e f = taken u (λ p s. says-uppercase s u e f)
+  pub barred-uppercase : (u : ℕ) → field 14 line ≡ [] → codePoint (field 12 line) ≡ some u
+      → (lineRefusal b line ≡ some (refusal 25 0 0)) ↔ (Clear (fault28 b ∷ readingFaults line) × MapsBarred c u ps)
+  barred-uppercase u e f = taken u (λ p s. says-uppercase s u e f)
 
   -- to field 14's, where that is filled: a surrogate in field 12 beside it is no fault
-  pub surrogate-titlecase : (t : ℕ) → codePoint (field 14 line) ≡ some t
-      → (lineRefusal b line ≡ some (refusal 25 0 0)) ↔ (Clear (fault28 b ∷ readingFaults line) × MapsSurrogate c t ps)
-  surrogate-titlecase t e = taken t (λ p s. says-titlecase s t e)
+  pub barred-titlecase : (t : ℕ) → codePoint (field 14 line) ≡ some t
+      → (lineRefusal b line ≡ some (refusal 25 0 0)) ↔ (Clear (fault28 b ∷ readingFaults line) × MapsBarred c t ps)
+  barred-titlecase t e = taken t (λ p s. says-titlecase s t e)
 
   -- to itself, where both are empty
-  pub surrogate-itself : field 14 line ≡ [] → field 12 line ≡ []
-      → (lineRefusal b line ≡ some (refusal 25 0 0)) ↔ (Clear (fault28 b ∷ readingFaults line) × MapsSurrogate c c ps)
-  surrogate-itself e f = taken c (λ p s. says-itself s e f ∙ code-said s code)
+  pub barred-itself : field 14 line ≡ [] → field 12 line ≡ []
+      → (lineRefusal b line ≡ some (refusal 25 0 0)) ↔ (Clear (fault28 b ∷ readingFaults line) × MapsBarred c c ps)
+  barred-itself e f = taken c (λ p s. says-itself s e f ∙ code-said s code)
 
 -- ---- "Refusals: 29, field 12 malformed, checked even when 14 is filled, between 23 and 24."
 

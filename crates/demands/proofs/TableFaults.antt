@@ -13,6 +13,8 @@ use borrow.Author.Tests.{leb-true, le-leb, not-false}
 use Rattle.terms.specs.CodePoints.{scalar}
 use Rattle.terms.specs.Lists.{lowest, orElse, when}
 use Rattle.terms.proofs.Tests.{both, join, none-some}
+use Rattle.hangul.specs.Hangul.{syllable}
+use Rattle.hangul.proofs.Syllables.{syllable-bounds, syllable-within}
 use Rattle.table.specs.Layout.{entryCount, wholeEntries, codeAt, titleAt, startAt, countAt}
 use Rattle.table.specs.Table.{Table, faultyCode, faultyEntry, faultyNumber, notAbove, countsBelow, poolLeft, entryFault}
 use Rattle.table.specs.Table.{formChecks}
@@ -20,7 +22,7 @@ use Rattle.table.proofs.Entries.{whole-exactly}
 use Rattle.decompose.specs.TableCheck.{levelFault}
 use Rattle.decompose.proofs.Demand3.{levelFault-exactly}
 use Rattle.demands.specs.Demands.{tableChecks}
-use Rattle.demands.specs.Faults.{Surrogate, Scalar, NotAbove, WrongCode, WrongEntry, WrongEntries, WrongNumber}
+use Rattle.demands.specs.Faults.{Surrogate, Scalar, Syllable, NotAbove, WrongCode, WrongEntry, WrongEntries, WrongNumber}
 use Rattle.demands.specs.Faults.{formFaults, tableFaults}
 use Rattle.demands.proofs.Reflect.{leb-exactly, ltb-exactly, eqb-exactly, and-exactly, or3-exactly, or4-exactly}
 use Rattle.demands.proofs.Reflect.{not-exactly, lowest-exactly, nowhere-exactly}
@@ -40,6 +42,12 @@ pub scalar-exactly : (c : ℕ) → (scalar c ≡ true) ↔ Scalar c
 scalar-exactly c =
     and-exactly (leb c 0x10FFFF) (not (leb 0xD800 c && leb c 0xDFFF)) (leb-exactly c 0x10FFFF)
     (not-exactly (leb 0xD800 c && leb c 0xDFFF) (surrogate-exactly c))
+
+pub syllable-exactly : (c : ℕ) → (syllable c ≡ true) ↔ Syllable c
+syllable-exactly c = (
+  λ e. (let h = syllable-bounds c e in (omega (arith, h .0), omega (arith, h .1))),
+  λ h. syllable-within c (omega (arith, h .0)) (omega (arith, h .1)),
+)
 
 -- up to 10FFFF, what is not scalar is a surrogate
 pub unscalar-exactly : (c : ℕ) → c ≤ 0x10FFFF → (scalar c ≡ false) ↔ Surrogate c
@@ -61,9 +69,10 @@ above-exactly es (suc i) =
 
 code-exactly : (es : List ℕ) (i : ℕ) → (faultyCode es i ≡ true) ↔ WrongCode es i
 code-exactly es i =
-    or3-exactly (not (scalar (codeAt es i))) (not (scalar (titleAt es i))) (notAbove es i)
+    or4-exactly (not (scalar (codeAt es i))) (not (scalar (titleAt es i))) (syllable (codeAt es i)) (notAbove es i)
     (not-exactly (scalar (codeAt es i)) (scalar-exactly (codeAt es i)))
     (not-exactly (scalar (titleAt es i)) (scalar-exactly (titleAt es i)))
+    (syllable-exactly (codeAt es i))
     (above-exactly es i)
 
 entry-exactly : (t : Table) (i : ℕ) → (faultyEntry t i ≡ true) ↔ WrongEntry t i

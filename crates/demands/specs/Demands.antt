@@ -5,14 +5,15 @@
 use mathlib.Core.Path.{_≡_}
 use Prim.Native.Nat.{ℕ, suc, _+_, _*_, _≤_, _<_}
 use mathlib.Core.Logic.{_⊎_}
-use mathlib.Core.Bool.{true}
+use mathlib.Core.Bool.{true, cond}
 use mathlib.Core.Option.{Option, none, some}
 use mathlib.Core.List.{List, [], _∷_, _++_}
 use lib.ListN.{length, take, drop, replicate}
-use Rattle.terms.specs.Lists.{over}
+use Rattle.terms.specs.Lists.{each, over}
 use Rattle.terms.specs.Refusals.{refusal}
 use Rattle.terms.specs.declared.Collation.{Collation}
 use Rattle.terms.specs.declared.Refusal.{Refusal}
+use Rattle.hangul.specs.Hangul.{syllable, syllableParts}
 use Rattle.table.specs.Mapping.{Mapping}
 use Rattle.table.specs.Table.{Table, refusedAt, formChecks, mappingOf}
 use Rattle.utf8.specs.Utf8.{Character, characters}
@@ -161,3 +162,9 @@ pub record Attained (t : Table) (text : List ℕ) (chs : List Character) (asked 
   pub key : List ℕ
   pub steps : StepsGive (mappingOf t) chs key asked
   pub size : length key ≡ octets
+
+-- ---- syllables (request 4)
+
+-- a name with each syllable written in its jamo
+abbrev pub inJamo : List ℕ → List ℕ
+inJamo cs = each (λ c. cond (syllable c) (syllableParts c) (c ∷ [])) cs

@@ -11,7 +11,7 @@ use lib.ListN.{length, getD}
 use Rattle.terms.specs.Lists.{In}
 use Rattle.table.specs.Layout.{entryCount, codeAt, titleAt, startAt, countAt}
 use Rattle.table.specs.Table.{Table, countsBelow}
-use Rattle.decompose.specs.TableCheck.{LowestUnsound}
+use Rattle.decompose.specs.TableCheck.{LowestUnsound, SyllableUnsound}
 use Rattle.ucd.specs.Fields.{semicolons, field, codePoint, decomposition}
 use Rattle.ucd.specs.Lines.{Properties, LineSays}
 use Rattle.builder.specs.Builder.{Built}
@@ -57,6 +57,10 @@ Surrogate c = (0xD800 ≤ c) × (c ≤ 0xDFFF)
 abbrev pub Scalar : ℕ → Type 0
 Scalar c = (c ≤ 0x10FFFF) × (Surrogate c → ⊥)
 
+-- "AC00 to D7A3", the syllables of request 4
+abbrev pub Syllable : ℕ → Type 0
+Syllable c = (0xAC00 ≤ c) × (c ≤ 0xD7A3)
+
 -- ---- a table
 
 -- 3: "entry slice not a multiple of 4 long, over 16,384 entries, or pool over 65,536"
@@ -70,9 +74,14 @@ WrongSize t =
 abbrev pub NotAbove : List ℕ → ℕ → Type 0
 NotAbove es i = (j : ℕ) × (i ≡ suc j) × (codeAt es i ≤ codeAt es j)
 
--- 4: "an entry's code point or titlecase not scalar, or its code point not above the entry before"
+-- 4: "an entry's code point or titlecase not scalar, or its code point not above the entry before", or "an entry for a code
+-- point in that range", a syllable
 abbrev pub WrongCode : List ℕ → ℕ → Type 0
-WrongCode es i = (Scalar (codeAt es i) → ⊥) ⊎ (Scalar (titleAt es i) → ⊥) ⊎ NotAbove es i
+WrongCode es i =
+    (Scalar (codeAt es i) → ⊥)
+    ⊎ (Scalar (titleAt es i) → ⊥)
+    ⊎ Syllable (codeAt es i)
+    ⊎ NotAbove es i
 
 -- 5: "an entry with count over 32, wrong start, parts past the pool's end, or saying nothing"
 abbrev pub WrongEntry : Table → ℕ → Type 0
@@ -94,6 +103,11 @@ WrongEntries t i =
 abbrev pub WrongNumber : List ℕ → ℕ → Type 0
 WrongNumber pool j = Scalar (getD pool j 0) → ⊥
 
+-- 7, with its detail: "an entry whose code point has no level, a level over 8, or a full decomposition over 32 code points", the
+-- "lowest such entry"; "if no entry is at fault but a syllable is, the detail is the number of entries"
+abbrev pub Unsound : Table → ℕ → Type 0
+Unsound t i = LowestUnsound t i ⊎ SyllableUnsound t i
+
 -- 3 to 7
 abbrev pub fault3 : Table → Fault
 fault3 t = plain 3 (WrongSize t)
@@ -108,7 +122,7 @@ abbrev pub fault6 : Table → Fault
 fault6 t = fault 6 (LowestAt (WrongNumber (t .pool)) (length (t .pool)))
 
 abbrev pub fault7 : Table → Fault
-fault7 t = fault 7 (LowestUnsound t)
+fault7 t = fault 7 (Unsound t)
 
 -- the form, and the whole row of a table
 abbrev pub formFaults : Table → List Fault
@@ -143,21 +157,28 @@ MalformedField i line = (field i line ≡ [] → ⊥) × (codePoint (field i lin
 abbrev pub HasMapping : Properties → Type 0
 HasMapping p = (p .title ≡ p .code) × (p .parts ≡ []) → ⊥
 
--- 25: "a line with a mapping has a surrogate in field 0, 5 or 14", or in 12 where that is taken
-pub record SaysSurrogate (line : List ℕ) : Type 0 where
+-- one of some code points is a surrogate
+pub record HasSurrogate (codes : List ℕ) : Type 0 where
+  pub code : ℕ
+  pub among : In code codes
+  pub surrogate : Surrogate code
+
+-- of a code point, the titlecase that is taken for it and its parts: one of them is a surrogate, or the code point is a syllable
+abbrev pub Barred : ℕ → ℕ → List ℕ → Type 0
+Barred c t ps = HasSurrogate (c ∷ t ∷ ps) ⊎ Syllable c
+
+-- 25: "a line with a mapping has a surrogate in field 0, 5 or 14", or in 12 where that is taken; "and a line with a mapping for
+-- one", a syllable, "gets 25"
+pub record SaysBarred (line : List ℕ) : Type 0 where
   pub said : Properties
   pub says : LineSays line said
   pub mapping : HasMapping said
-  pub code : ℕ
-  pub among : In code (said .code ∷ said .title ∷ said .parts)
-  pub surrogate : Surrogate code
+  pub barred : Barred (said .code) (said .title) (said .parts)
 
 -- the same of a code point, the titlecase that is taken for it and its parts
-pub record MapsSurrogate (c t : ℕ) (ps : List ℕ) : Type 0 where
+pub record MapsBarred (c t : ℕ) (ps : List ℕ) : Type 0 where
   pub mapping : (t ≡ c) × (ps ≡ []) → ⊥
-  pub code : ℕ
-  pub among : In code (c ∷ t ∷ ps)
-  pub surrogate : Surrogate code
+  pub barred : Barred c t ps
 
 -- 26: "code point not above the last"
 pub record SaysEarlier (b : Built) (line : List ℕ) : Type 0 where
@@ -198,7 +219,7 @@ abbrev pub fault24 : List ℕ → Fault
 fault24 line = plain 24 (MalformedField 14 line)
 
 abbrev pub fault25 : List ℕ → Fault
-fault25 line = plain 25 (SaysSurrogate line)
+fault25 line = plain 25 (SaysBarred line)
 
 abbrev pub fault26 : Built → List ℕ → Fault
 fault26 b line = plain 26 (SaysEarlier b line)

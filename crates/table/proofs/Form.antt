@@ -4,8 +4,8 @@
 use Prim.Native.Nat.{ℕ, zero, suc, _+_, _≤_, _<_}
 use native.Mathlib.Omega.{arith}
 use native.Mathlib.Decide.{ℕ-discrete}
-use mathlib.Core.Path.{_≡_, refl, ap}
-use mathlib.Core.Bool.{Bool, true, false, _||_, not}
+use mathlib.Core.Path.{_≡_, refl, sym, ap, _∙_}
+use mathlib.Core.Bool.{Bool, true, false, cond, _||_, not, true≢false}
 use mathlib.Core.Option.{Option, none, some}
 use mathlib.Core.List.{List, [], _∷_}
 use lib.Dec.{eqb, ltb}
@@ -18,9 +18,11 @@ use Rattle.terms.specs.Refusals.{entriesMost, partsMost, check, refusal}
 use Rattle.terms.proofs.Checks.{or-left, or-right, orElse-neither, when-none}
 use Rattle.terms.proofs.Lists.{all-cons}
 use Rattle.terms.proofs.Lowest.{lowest-is, lowest-some, lowest-none, lowest-nowhere}
+use Rattle.hangul.specs.Hangul.{syllable, syllableParts}
+use Rattle.hangul.proofs.Syllables.{parts-scalar}
 use Rattle.table.specs.Layout.{entryCount, wholeEntries, codeAt, titleAt, startAt, countAt}
 use Rattle.table.specs.Table.{Table, faultySize, notAbove, faultyCode, faultyEntry, poolLeft, faultyNumber, refusedAt}
-use Rattle.table.specs.Table.{entryFault, formRefusal, entryOf, titleIn, titleOf, partsIn, partsOf}
+use Rattle.table.specs.Table.{entryFault, formRefusal, entryOf, titleIn, titleOf, partsIn, entryParts, partsOf}
 use Rattle.table.specs.Promises.{Ascending}
 
 -- ---- none of the checks applies
@@ -85,7 +87,11 @@ sound-entries t e =
 
 -- an entry that 4 passes has a scalar titlecase
 pub sound-title : (es : List ℕ) (i : ℕ) → faultyCode es i ≡ false → scalar (titleAt es i) ≡ true
-sound-title es i e = not-false _ (or-right (not (scalar (codeAt es i))) _ (or-left _ _ e))
+sound-title es i e = not-false _ (or-right (not (scalar (codeAt es i))) _ (or-left _ _ (or-left _ _ e)))
+
+-- and is no syllable's
+pub sound-code : (es : List ℕ) (i : ℕ) → faultyCode es i ≡ false → syllable (codeAt es i) ≡ false
+sound-code es i e = or-right (not (scalar (codeAt es i)) || not (scalar (titleAt es i))) _ (or-left _ _ e)
 
 -- an entry that 5 passes has a count of at most 32
 pub sound-count : (t : Table) (i : ℕ) → faultyEntry t i ≡ false → countAt (t .entries) i ≤ partsMost
@@ -106,8 +112,16 @@ module _ (t : Table) (form : formRefusal t ≡ none) where
   unfolding notAbove
   formed-ascending i l =
       leb-false (codeAt (t .entries) (suc i)) (codeAt (t .entries) i)
-      (or-right (not (scalar (codeAt (t .entries) (suc i))) || not (scalar (titleAt (t .entries) (suc i)))) _
+      (or-right
+      (not (scalar (codeAt (t .entries) (suc i)))
+      || not (scalar (titleAt (t .entries) (suc i)))
+      || syllable (codeAt (t .entries) (suc i)))
+      _
       (formed t form .codes (suc i) l))
+
+  -- none is a syllable
+  pub formed-code : (i : ℕ) → i < entryCount (t .entries) → syllable (codeAt (t .entries) i) ≡ false
+  formed-code i l = sound-code (t .entries) i (formed t form .codes i l)
 
   -- the parts of an entry lie in the pool
   pub formed-fits : (i : ℕ) → i < entryCount (t .entries)
@@ -165,17 +179,29 @@ entryOf-some es c i e =
 pub titleOf-none : (es : List ℕ) (c : ℕ) → entryOf es c ≡ none → titleOf es c ≡ c
 titleOf-none es c e = ap (titleIn es c) e
 
--- and has no parts
-pub partsOf-none : (t : Table) (c : ℕ) → entryOf (t .entries) c ≡ none → partsOf t c ≡ []
-partsOf-none t c e = ap (partsIn t) e
+-- and its entry says no parts
+pub entryParts-none : (t : Table) (c : ℕ) → entryOf (t .entries) c ≡ none → entryParts t c ≡ []
+entryParts-none t c e = ap (partsIn t) e
 
 -- one with an entry has the entry's titlecase
 pub titleOf-some : (es : List ℕ) (c i : ℕ) → entryOf es c ≡ some i → titleOf es c ≡ titleAt es i
 titleOf-some es c i e = ap (titleIn es c) e
 
 -- and its parts
-pub partsOf-some : (t : Table) (c i : ℕ) → entryOf (t .entries) c ≡ some i → partsOf t c ≡ partsIn t (some i)
-partsOf-some t c i e = ap (partsIn t) e
+pub entryParts-some : (t : Table) (c i : ℕ) → entryOf (t .entries) c ≡ some i → entryParts t c ≡ partsIn t (some i)
+entryParts-some t c i e = ap (partsIn t) e
+
+-- a syllable has its jamo
+pub partsOf-syllable : (t : Table) (c : ℕ) → syllable c ≡ true → partsOf t c ≡ syllableParts c
+partsOf-syllable t c is = rw is
+
+-- any other code point what its entry says
+pub partsOf-other : (t : Table) (c : ℕ) → syllable c ≡ false → partsOf t c ≡ entryParts t c
+partsOf-other t c other = rw other
+
+-- one with neither has no parts
+pub partsOf-none : (t : Table) (c : ℕ) → syllable c ≡ false → entryOf (t .entries) c ≡ none → partsOf t c ≡ []
+partsOf-none t c other e = partsOf-other t c other ∙ entryParts-none t c e
 
 -- ---- what a table of the form means
 
@@ -203,10 +229,31 @@ module _ (t : Table) (form : formRefusal t ≡ none) where
       go none e = h
       go (some i) e = formed-title t form i (entryOf-some (t .entries) c i e .0)
 
-  -- the parts of a code point are scalar
+  -- the parts that an entry says are scalar
+  formed-entry-scalar : (o : Option ℕ) → all scalar (partsIn t o) ≡ true
+  formed-entry-scalar none = refl
+  formed-entry-scalar (some i) =
+      all-part scalar (t .pool) (countAt (t .entries) i) (startAt (t .entries) i) (formed-number t form)
+
+  -- so are the parts of any code point
   pub formed-parts-scalar : (c : ℕ) → all scalar (partsOf t c) ≡ true
-  formed-parts-scalar c = go (entryOf (t .entries) c)
+  formed-parts-scalar c = go (syllable c) refl
     where
-      go : (o : Option ℕ) → all scalar (partsIn t o) ≡ true
-      go none = refl
-      go (some i) = all-part scalar (t .pool) (countAt (t .entries) i) (startAt (t .entries) i) (formed-number t form)
+      go : (b : Bool) → syllable c ≡ b → all scalar (cond b (syllableParts c) (entryParts t c)) ≡ true
+      go true is = parts-scalar c is
+      go false other = formed-entry-scalar (entryOf (t .entries) c)
+
+  -- no syllable has an entry
+  pub formed-unlisted : (c : ℕ) → syllable c ≡ true → entryOf (t .entries) c ≡ none
+  formed-unlisted c is =
+      entryOf-none (t .entries) c (λ k l e. true≢false (sym is ∙ ap syllable (sym e) ∙ formed-code t form k l))
+
+  -- so it is its own titlecase
+  pub formed-title-syllable : (c : ℕ) → syllable c ≡ true → titleOf (t .entries) c ≡ c
+  formed-title-syllable c is = titleOf-none (t .entries) c (formed-unlisted c is)
+
+  -- the parts of an entry are those of its code point
+  pub formed-parts-at : (i : ℕ) → i < entryCount (t .entries) → partsOf t (codeAt (t .entries) i) ≡ partsIn t (some i)
+  formed-parts-at i l =
+      partsOf-other t (codeAt (t .entries) i) (formed-code t form i l)
+      ∙ entryParts-some t (codeAt (t .entries) i) i (entryOf-entry (t .entries) (formed-ascending t form) i l)

@@ -11,8 +11,9 @@ use Rattle.terms.specs.CodePoints.{scalar}
 use Rattle.terms.specs.Lists.{lowest, orElse, when}
 use Rattle.terms.specs.Refusals.{entriesMost, poolMost, partsMost, refusal, check, first}
 use Rattle.terms.specs.declared.Refusal.{Refusal}
+use Rattle.hangul.specs.Hangul.{syllable}
 use Rattle.table.specs.Layout.{entryCount, wholeEntries, codeAt, titleAt, startAt, countAt}
-use Rattle.table.specs.Mapping.{Mapping}
+use Rattle.table.specs.Mapping.{Mapping, withSyllables}
 
 -- "Two lent slices of 32-bit numbers: the entries, .. and the pool"
 pub record Table : Type 0 where
@@ -35,9 +36,11 @@ unfoldable pub notAbove : List ℕ → ℕ → Bool
 notAbove es zero = false
 notAbove es (suc i) = leb (codeAt es (suc i)) (codeAt es i)
 
--- 4: "an entry's code point or titlecase not scalar, or its code point not above the entry before"
+-- 4: "an entry's code point or titlecase not scalar, or its code point not above the entry before", or "an entry for a code
+-- point in that range", a syllable
 abbrev pub faultyCode : List ℕ → ℕ → Bool
-faultyCode es i = not (scalar (codeAt es i)) || not (scalar (titleAt es i)) || notAbove es i
+faultyCode es i =
+    not (scalar (codeAt es i)) || not (scalar (titleAt es i)) || syllable (codeAt es i) || notAbove es i
 
 -- "the sum of all earlier counts": of the entries below i
 unfoldable pub countsBelow : List ℕ → ℕ → ℕ
@@ -103,13 +106,21 @@ abbrev pub partsIn : Table → Option ℕ → List ℕ
 partsIn t none = []
 partsIn t (some i) = take (countAt (t .entries) i) (drop (startAt (t .entries) i) (t .pool))
 
--- the titlecase of a code point, and its decomposition
+-- the titlecase of a code point, and the decomposition that its entry says
 abbrev pub titleOf : List ℕ → ℕ → ℕ
 titleOf es c = titleIn es c (entryOf es c)
 
-abbrev pub partsOf : Table → ℕ → List ℕ
-partsOf t c = partsIn t (entryOf (t .entries) c)
+abbrev pub entryParts : Table → ℕ → List ℕ
+entryParts t c = partsIn t (entryOf (t .entries) c)
 
--- the mapping of a table
+-- the mapping of the entries
+abbrev pub entryMapping : Table → Mapping
+entryMapping t = record { title = titleOf (t .entries); parts = entryParts t }
+
+-- the mapping of a table: that of its entries with the syllables by rule
 abbrev pub mappingOf : Table → Mapping
-mappingOf t = record { title = titleOf (t .entries); parts = partsOf t }
+mappingOf t = withSyllables (entryMapping t)
+
+-- the decomposition of a code point
+abbrev pub partsOf : Table → ℕ → List ℕ
+partsOf t = mappingOf t .parts

@@ -52,6 +52,9 @@ fn is_faulty_code(entries: &[u32], i: usize) -> bool
     if !terms::is_scalar(title.0) {
         return true;
     }
+    if hangul::is_syllable(c) {
+        return true;
+    }
     if i == 0 {
         return false;
     }

@@ -13,7 +13,8 @@ ghost use mathlib.Core.Option.{none, some};
 ghost use Prim.Native.Nat.{_<_};
 ghost use Rattle.terms.specs.Refusals.{refusal, answer, checkOutcome};
 ghost use Rattle.table.specs.Layout.{entryCount};
-ghost use Rattle.table.specs.Table.{table, formRefusal, entryOf, partsIn, partsOf};
+ghost use Rattle.hangul.specs.Promises.{jamoOf};
+ghost use Rattle.table.specs.Table.{table, formRefusal, entryOf, partsIn, entryParts, partsOf};
 ghost use Rattle.table.specs.Promises.{placeFound, Ascending, Candidates};
 
 // Within how many entries of a guess to look first.
@@ -68,10 +69,22 @@ pub fn find_entry(entries: &[u32], c: CodePoint) -> Place
     find_around(entries, c, count)
 }
 
-// The decomposition of a code point, as a part of the pool; empty if it has none.
-pub fn parts_of<'a>(entries: &[u32], pool: &'a [u32], c: CodePoint) -> &'a [u32]
+// The decomposition of a code point, as a part of the pool or, of a syllable, of its jamo; empty if it has none.
+pub fn parts_of<'a>(entries: &[u32], pool: &'a [u32], jamo: &'a [u32], c: CodePoint) -> &'a [u32]
     requires { ⌜ formRefusal (table (now entries) (now pool)) ≡ none ⌝ }
+    requires { ⌜ now jamo ≡ jamoOf (c .0) ⌝ }
     ensures { λ r. ⌜ now r ≡ partsOf (table (now (entries .entry)) (now (pool .entry))) (c .0) ⌝ }
+{
+    if hangul::is_syllable(c) {
+        return hangul::parts_among(c, jamo);
+    }
+    entry_parts(entries, pool, c)
+}
+
+// The decomposition that the entry of a code point says, as a part of the pool; empty if it has none.
+pub fn entry_parts<'a>(entries: &[u32], pool: &'a [u32], c: CodePoint) -> &'a [u32]
+    requires { ⌜ formRefusal (table (now entries) (now pool)) ≡ none ⌝ }
+    ensures { λ r. ⌜ now r ≡ entryParts (table (now (entries .entry)) (now (pool .entry))) (c .0) ⌝ }
 {
     let count = within_reach(entries, c);
     // A capital A to Z is below the first entry. Not by find_entry: with two callers find_around is compiled apart, and this

@@ -6,7 +6,7 @@ use lib.Dec.{ltb}
 use borrow.Author.Needs.{needs}
 use borrow.Author.Tests.{lt-ltb, le-ltb}
 use Rattle.ucd.specs.Lines.{Properties, withParts}
-use Rattle.builder.specs.Builder.{Built, built, surrogate}
+use Rattle.builder.specs.Builder.{Built, built, barred}
 use Rattle.builder.specs.Promises.{propertiesRefusal}
 use Rattle.builder.proofs.Adding.{addedBy-refused, addedBy-taken}
 use Rattle.builder.proofs.add_given.Statement.{statement}
@@ -23,8 +23,8 @@ given s = withParts (s .args .simple) (s .args .parts .now)
 abbrev start-of : tie.Else1 → tie.Start
 start-of c = c .before .before .before .before .before
 
-clean : (c : tie.Else1) → surrogate (given (start-of c)) ≡ false
-clean c = sym (c .before .has-surrogate .ensures) ∙ c .if1 .left
+clean : (c : tie.Else1) → barred (given (start-of c)) ≡ false
+clean c = sym (c .before .is-barred .ensures) ∙ c .if1 .left
 
 abbrev was-clean : tie.Else2 → tie.Else1
 was-clean c = c .before .before .before .before
@@ -38,20 +38,20 @@ above c = le-ltb _ _ (c .if2 .left)
 abbrev was-above : tie.After-is-crowded → tie.Else2
 was-above c = c .before .before .before
 
-has-surrogate-requires : tie.Need-has-surrogate-requires
-has-surrogate-requires c κs = search needs
+is-barred-requires : tie.Need-is-barred-requires
+is-barred-requires c κs = search needs
 
 refused-requires : tie.Need-refused-requires
 refused-requires c κs = search needs
 
--- a surrogate
+-- barred
 returns : tie.Need-returns
 unfolding propertiesRefusal
 returns c =
     let called = c .before .before in
     rw (c .refused .ensures)
     (addedBy-refused (before (called .before .before .before .before))
-    (rw (← (called .has-surrogate .ensures), c .before .if1 .taken)))
+    (rw (← (called .is-barred .ensures), c .before .if1 .taken)))
 
 cast-code : tie.Need-cast-code
 cast-code c = search needs
@@ -115,7 +115,7 @@ pub add-given-spec : {M : Type 1} → statement M
 add-given-spec =
     tie.close
     (tie.spec
-    has-surrogate-requires
+    is-barred-requires
     refused-requires
     returns
     cast-code

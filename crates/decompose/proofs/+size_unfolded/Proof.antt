@@ -3,9 +3,11 @@
 -- the parts, to `asked` asks (`Sizing`). The loop's measure is the number of parts that are left. Assumes nothing.
 use Prim.Native.Nat.{ℕ, _+_, _-_, _≤_, _<_}
 use native.Mathlib.Omega.{arith}
+use mathlib.Core.Path.{sym, ap, _∙_}
 use mathlib.Core.Logic.{⊎-elim}
 use lib.ListN.{length, getD}
 use borrow.Author.Needs.{needs}
+use Rattle.hangul.proofs.Syllables.{length-jamoOf}
 use Rattle.table.specs.Mapping.{Mapping}
 use Rattle.table.specs.Table.{table, mappingOf}
 use Rattle.decompose.specs.Promises.{FullCounted}
@@ -17,6 +19,7 @@ use borrow.Fn.PlainCycle.{Measures, is, falls, and}
 use Rattle.decompose.proofs.size_unfolded.Reads as reads
 use Rattle.decompose.proofs.size_unfolded.Kinds as kinds
 use Rattle.decompose.proofs.+size_unfolded.Lts-size_unfolded as lts
+use Rattle.hangul.proofs.jamo_of.Reads as jamo-of-reads
 use Rattle.table.proofs.parts_of.Reads as parts-of-reads
 use Rattle.utf8.proofs.octet_count.Reads as octet-count-reads
 use Rattle.decompose.proofs.+size_unfolded.{statement}
@@ -34,7 +37,16 @@ abbrev below : ℕ → In 3 kinds.ps
 below t = and 3 kinds.ps (falls 3 kinds.ps _<_ μ-size-unfolded t) reads.Pre
 
 abbrev claims : ℕ → lts.Claims
-claims t = (parts-of-reads.Asked, parts-of-reads.Learnt, octet-count-reads.Asked, octet-count-reads.Learnt, below t, reads.Post)
+claims t = (
+  jamo-of-reads.Asked,
+  jamo-of-reads.Learnt,
+  parts-of-reads.Asked,
+  parts-of-reads.Learnt,
+  octet-count-reads.Asked,
+  octet-count-reads.Learnt,
+  below t,
+  reads.Post,
+)
 
 abbrev Inv-loop : lts.InvT-loop
 Inv-loop levels-left parts entries pool octets₀ asked₀ i₀ octets asked i =
@@ -54,12 +66,15 @@ mapping t s = mappingOf (table (s .args .entries .now) (s .args .pool .now))
 level : (t : ℕ) (s : Of t lts.Start) → 1 ≤ s .args .levels-left
 level t s = let p = s .pre .1 .1 in bounded-levels (p .1) (p .0)
 
--- where a part was looked up: the loop's head, and the function's entry
+-- where a part was looked up: the loop's head, that there is a part, and the function's entry
 abbrev head : (t : ℕ) → Of t lts.After-parts-of → Of t lts.At-loop
-head t c = c .before .before .before
+head t c = c .before .before .before .before .before
 
 abbrev start : (t : ℕ) → Of t lts.After-parts-of → Of t lts.Start
 start t c = head t c .before .before .before .before
+
+abbrev taken : (t : ℕ) (c : Of t lts.After-parts-of) → head t c .loop .i < length (start t c .args .parts .now)
+taken t c = c .before .before .before .before .loop-test .taken
 
 -- that part was counted
 abbrev Part : (t : ℕ) → Of t lts.After-parts-of → Unfolded → Type 0
@@ -75,7 +90,7 @@ more : (t : ℕ) (c : Of t lts.After-parts-of) (r : Unfolded) → Part t c r
     (l .loop .octets + r .octets)
     (l .loop .asked + r .asks)
     (l .loop .i + 1)
-more t c r part = sizing-more (head t c .loop .inv) (c .before .before .loop-test .taken) part
+more t c r part = sizing-more (head t c .loop .inv) (taken t c) part
 
 -- to few octets and few asks
 few : (t : ℕ) (c : Of t lts.After-parts-of) (r : Unfolded) → Part t c r
@@ -101,14 +116,20 @@ loop-holds : (t : ℕ) → Of t lts.Need-loop-holds
 loop-holds t c = sizing-start
 
 -- an index fits
-mul-t12 : (t : ℕ) → Of t lts.Need-mul-t12
-mul-t12 t c = omega (arith, c .loop-test .taken)
+mul-t13 : (t : ℕ) → Of t lts.Need-mul-t13
+mul-t13 t c = omega (arith, c .loop-test .taken)
 
-shared-slice-read-t15 : (t : ℕ) → Of t lts.Need-shared-slice-read-t15
-shared-slice-read-t15 t c = c .before .loop-test .taken
+shared-slice-read-t16 : (t : ℕ) → Of t lts.Need-shared-slice-read-t16
+shared-slice-read-t16 t c = c .before .loop-test .taken
+
+jamo-of-requires : (t : ℕ) → Of t lts.Need-jamo-of-requires
+jamo-of-requires t c κs = search needs
+
+slice-aggregate-parts-of : (t : ℕ) → Of t lts.Need-slice-aggregate-parts-of
+slice-aggregate-parts-of t c = length-jamoOf _ ∙ sym (ap length (c .before .jamo-of .ensures))
 
 parts-of-requires : (t : ℕ) → Of t lts.Need-parts-of-requires
-parts-of-requires t c κs = c .before .before .before .before .before .before .pre .1 .0
+parts-of-requires t c κs = (c .before .before .before .before .before .before .before .before .pre .1 .0, c .before .jamo-of .ensures)
 
 octet-count-requires : (t : ℕ) → Of t lts.Need-octet-count-requires
 octet-count-requires t c κs = search needs
@@ -135,7 +156,7 @@ size-unfolded-requires t c κs =
         s .pre .1 .0,
         (
           parts-some (looked .parts-of .ensures) (c .if1 .left),
-          bounded-part (p .1) (p .0) (head t looked .loop .i) (looked .before .before .loop-test .taken),
+          bounded-part (p .1) (p .0) (head t looked .loop .i) (taken t looked),
         ),
       ),
     )
@@ -152,10 +173,10 @@ add-asked-2 t c =
 
 -- an index fits
 add-i : (t : ℕ) → Of t lts.Need-add-i
-add-i t c = omega (arith, c .before .before .before .loop-test .taken)
+add-i t c = omega (arith, taken t (c .before))
 
 loop-less : (t : ℕ) → Of t lts.Need-loop-less
-loop-less t c = omega (arith, c .before .before .before .loop-test .taken)
+loop-less t c = omega (arith, taken t (c .before))
 
 -- one part more, either way
 loop-again : (t : ℕ) → Of t lts.Need-loop-again
@@ -183,8 +204,10 @@ pub +size-unfolded-spec : {M : Type 1} → statement M
     close μ-size-unfolded λ t.
     lts.spec (claims t) (at t) reads.Post Inv-loop μ-loop
     (loop-holds t)
-    (mul-t12 t)
-    (shared-slice-read-t15 t)
+    (mul-t13 t)
+    (shared-slice-read-t16 t)
+    (jamo-of-requires t)
+    (slice-aggregate-parts-of t)
     (parts-of-requires t)
     (octet-count-requires t)
     (add-octets t)

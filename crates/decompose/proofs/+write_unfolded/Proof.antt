@@ -5,13 +5,15 @@
 use Prim.Native.Nat.{ℕ, _+_, _-_, _≤_, _<_}
 use native.Mathlib.Omega.{arith}
 use native.Mathlib.Nat.{le-refl}
-use mathlib.Core.Path.{_≡_}
+use mathlib.Core.Path.{_≡_, sym, ap, _∙_}
 use mathlib.Core.Bool.{true}
 use mathlib.Core.List.{List, [], _++_}
 use mathlib.Core.Logic.{⊎-elim}
 use lib.ListN.{length, getD, take, drop}
+use borrow.Author.Needs.{needs}
 use Rattle.terms.specs.CodePoints.{scalar}
 use Rattle.terms.proofs.Lists.{all-at}
+use Rattle.hangul.proofs.Syllables.{length-jamoOf}
 use Rattle.table.specs.Mapping.{Mapping}
 use Rattle.table.specs.Table.{Table, table, mappingOf}
 use Rattle.table.proofs.Form.{formed-parts-scalar}
@@ -28,6 +30,7 @@ use borrow.Fn.PlainCycle.{Measures, is, falls, and}
 use Rattle.decompose.proofs.write_unfolded.Reads as reads
 use Rattle.decompose.proofs.write_unfolded.Kinds as kinds
 use Rattle.decompose.proofs.+write_unfolded.Lts-write_unfolded as lts
+use Rattle.hangul.proofs.jamo_of.Reads as jamo-of-reads
 use Rattle.table.proofs.parts_of.Reads as parts-of-reads
 use Rattle.utf8.proofs.write_character.Reads as write-character-reads
 use Rattle.decompose.proofs.+write_unfolded.{statement}
@@ -45,8 +48,16 @@ abbrev below : ℕ → In 4 kinds.ps
 below t = and 4 kinds.ps (falls 4 kinds.ps _<_ μ-write-unfolded t) reads.Pre
 
 abbrev claims : ℕ → lts.Claims
-claims t =
-    (parts-of-reads.Asked, parts-of-reads.Learnt, write-character-reads.Asked, write-character-reads.Learnt, below t, reads.Post)
+claims t = (
+  jamo-of-reads.Asked,
+  jamo-of-reads.Learnt,
+  parts-of-reads.Asked,
+  parts-of-reads.Learnt,
+  write-character-reads.Asked,
+  write-character-reads.Learnt,
+  below t,
+  reads.Post,
+)
 
 abbrev Inv-loop : lts.InvT-loop
 Inv-loop levels-left parts entries pool out₀ at₀ asks₀ i₀ out at asks i =
@@ -95,10 +106,10 @@ room t l = take (length (l .loop .out) - l .loop .at) (drop (l .loop .at) (l .lo
 
 -- where a part was looked up: the loop's head, that there is a part, and the part
 abbrev head : (t : ℕ) → Of t lts.After-parts-of → Of t lts.At-loop
-head t c = c .before .before .before
+head t c = c .before .before .before .before .before
 
 abbrev taken : (t : ℕ) (c : Of t lts.After-parts-of) → head t c .loop .i < length (entry t (head t c) .args .parts .now)
-taken t c = c .before .before .loop-test .taken
+taken t c = c .before .before .before .before .loop-test .taken
 
 abbrev part : (t : ℕ) → Of t lts.After-parts-of → ℕ
 part t c = getD (entry t (head t c) .args .parts .now) (head t c .loop .i) 0
@@ -165,14 +176,20 @@ loop-holds : (t : ℕ) → Of t lts.Need-loop-holds
 loop-holds t c = writing-start
 
 -- an index fits
-mul-t14 : (t : ℕ) → Of t lts.Need-mul-t14
-mul-t14 t c = omega (arith, c .loop-test .taken)
+mul-t15 : (t : ℕ) → Of t lts.Need-mul-t15
+mul-t15 t c = omega (arith, c .loop-test .taken)
 
-shared-slice-read-t17 : (t : ℕ) → Of t lts.Need-shared-slice-read-t17
-shared-slice-read-t17 t c = c .before .loop-test .taken
+shared-slice-read-t18 : (t : ℕ) → Of t lts.Need-shared-slice-read-t18
+shared-slice-read-t18 t c = c .before .loop-test .taken
+
+jamo-of-requires : (t : ℕ) → Of t lts.Need-jamo-of-requires
+jamo-of-requires t c κs = search needs
+
+slice-aggregate-parts-of : (t : ℕ) → Of t lts.Need-slice-aggregate-parts-of
+slice-aggregate-parts-of t c = length-jamoOf _ ∙ sym (ap length (c .before .jamo-of .ensures))
 
 parts-of-requires : (t : ℕ) → Of t lts.Need-parts-of-requires
-parts-of-requires t c κs = entry t (c .before .before) .pre .1 .0
+parts-of-requires t c κs = (entry t (c .before .before .before .before) .pre .1 .0, c .before .jamo-of .ensures)
 
 -- the part that is lent
 sub-write-character : (t : ℕ) → Of t lts.Need-sub-write-character
@@ -270,8 +287,10 @@ pub +write-unfolded-spec : {M : Type 1} → statement M
     close μ-write-unfolded λ t.
     lts.spec (claims t) (at t) reads.Post Inv-loop μ-loop
     (loop-holds t)
-    (mul-t14 t)
-    (shared-slice-read-t17 t)
+    (mul-t15 t)
+    (shared-slice-read-t18 t)
+    (jamo-of-requires t)
+    (slice-aggregate-parts-of t)
     (parts-of-requires t)
     (sub-write-character t)
     (part-write-character-start t)

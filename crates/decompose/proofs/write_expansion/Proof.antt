@@ -1,18 +1,21 @@
--- `decompose::write_expansion` meets its contract: a code point without an entry is its own expansion, for two asks; with one,
--- it is the titlecase if that has no parts, for two asks too; and else the titlecase unfolds, since every code point of an
--- accepted table does.
+-- `decompose::write_expansion` meets its contract: a code point without an entry is left to `write_unlisted`; with one, its
+-- expansion is the titlecase if that has no parts, for two asks; and else the titlecase unfolds, since every code point does
+-- over an accepted table.
 -- Assumes nothing.
 use native.Mathlib.Omega.{arith}
 use mathlib.Core.Path.{_≡_, sym, ap, _∙_}
 use mathlib.Core.Bool.{true}
 use mathlib.Core.Option.{none, some}
 use mathlib.Core.List.{[]}
+use lib.ListN.{length}
 use borrow.Author.Needs.{needs}
 use Rattle.terms.specs.CodePoints.{scalar}
 use Rattle.terms.specs.Refusals.{levelsMost}
+use Rattle.hangul.specs.Promises.{jamoOf}
+use Rattle.hangul.proofs.Syllables.{length-jamoOf}
 use Rattle.table.specs.Table.{Table, table, formRefusal, entryOf, titleOf, partsOf, mappingOf}
 use Rattle.table.specs.Promises.{placeFound}
-use Rattle.table.proofs.Form.{formed-ascending, formed-title-scalar, entryOf-some, titleOf-none, titleOf-some, partsOf-none}
+use Rattle.table.proofs.Form.{formed-ascending, formed-title-scalar, entryOf-some, titleOf-some}
 use Rattle.utf8.proofs.Encode.{scalar-most}
 use Rattle.decompose.specs.Promises.{Bounded}
 use Rattle.decompose.proofs.Walk.{parts-none, parts-some, bounded-unfolds, bounded-asks}
@@ -28,16 +31,10 @@ lent s = table (s .args .entries .now) (s .args .pool .now)
 form : (s : tie.Start) → formRefusal (lent s) ≡ none
 form s = accepted-form (lent s) (s .pre .0)
 
--- where no entry was found: the function's entry; the code point is its own titlecase, and has no parts
-abbrev start-none : tie.After-enum-told → tie.Start
-start-none c = c .before .before .before .before .before .before
-
-missing : (c : tie.After-enum-told) → let s = start-none c in
-    (titleOf (lent s .entries) (s .args .c .0) ≡ s .args .c .0) × (partsOf (lent s) (s .args .c .0) ≡ [])
-missing c =
-    let s = start-none c in
-    let e = sym (c .before .before .find-entry .ensures) ∙ ap placeFound (c .enum-told .given .1) in
-    (titleOf-none (lent s .entries) (s .args .c .0) e, partsOf-none (lent s) (s .args .c .0) e)
+-- where no entry was found: that there is none
+missing : (c : tie.After-enum-told) → let a = c .before .before .before .before .before .before .args in
+    entryOf (a .entries .now) (a .c .0) ≡ none
+missing c = sym (c .before .before .find-entry .ensures) ∙ ap placeFound (c .enum-told .given .1)
 
 -- where one was found: which it is
 found : (c : tie.After-i) → let a = c .before .before .before .before .before .before .args in
@@ -63,14 +60,17 @@ bounded c =
     let s = start c in
     bounded-unfolds (mappingOf (lent s)) (c .title-at .result .0) (accepted-all (lent s) (s .pre .0) (c .title-at .result .0))
 
--- where its parts were found, and where there are none
-parts : (c : tie.After-title-parts)
-    → c .title-parts .result .now ≡ partsOf (lent (start (c .before))) (c .before .title-at .result .0)
-parts c = c .title-parts .ensures ∙ ap (partsOf (lent (start (c .before)))) (sym (c .before .title-at .ensures))
+-- where its parts were found: where it was read, and that they are its parts; and where there are none
+abbrev read-at : tie.After-title-parts → tie.After-title-at
+read-at c = c .before .before .before
 
-plain : (c : tie.Then1) → let read = c .before .before in partsOf (lent (start read)) (read .title-at .result .0) ≡ []
+parts : (c : tie.After-title-parts)
+    → c .title-parts .result .now ≡ partsOf (lent (start (read-at c))) (read-at c .title-at .result .0)
+parts c = c .title-parts .ensures ∙ ap (partsOf (lent (start (read-at c)))) (sym (read-at c .title-at .ensures))
+
+plain : (c : tie.Then1) → let read = read-at (c .before) in partsOf (lent (start read)) (read .title-at .result .0) ≡ []
 plain c =
-    let read = c .before .before in
+    let read = read-at (c .before) in
     parts-none (mappingOf (lent (start read))) (read .title-at .result .0) _ (parts (c .before)) (c .if1 .taken)
 
 -- the code points ascend
@@ -83,39 +83,39 @@ enum-known-i c = search needs
 enum-told : tie.Need-enum-told
 enum-told c = search needs
 
--- a scalar code point, and room for its octets
-write-character-requires : tie.Need-write-character-requires
-write-character-requires c κs =
-    let s = start-none (c .before) in
-    let x = s .args .c .0 in
-    let e = missing (c .before) in
-    (scalar-most x (s .pre .1 .0), rw (expanded-plain (mappingOf (lent s)) x x (e .0) (e .1)) at (s .pre .1 .1))
+write-unlisted-requires : tie.Need-write-unlisted-requires
+write-unlisted-requires c κs =
+    let none = c .before in
+    let p = none .before .before .before .before .before .before .pre in
+    (p .0, (missing none, p .1))
 
 same-length : tie.Need-same-length
 same-length c = search needs
 
 -- no entry
 returns : tie.Need-returns
-returns c =
-    let called = c .before .before in
-    let none = called .before .before in
-    let s = start-none none in
-    let e = missing none in
-    filled-plain (mappingOf (lent s)) (s .args .c .0) (s .args .c .0) (e .0) (e .1) (s .args .out .now) _ _
-    (called .write-character .ensures)
+returns c = c .before .before .write-unlisted .ensures
 
 -- the entry is one
 title-at-requires : tie.Need-title-at-requires
 title-at-requires c κs = entryOf-some _ _ _ (found (c .before)) .0
 
+jamo-of-requires : tie.Need-jamo-of-requires
+jamo-of-requires c κs = search needs
+
+slice-aggregate-title-parts : tie.Need-slice-aggregate-title-parts
+slice-aggregate-title-parts c = length-jamoOf _ ∙ sym (ap length (c .before .jamo-of .ensures))
+
 -- it was found
 title-parts-requires : tie.Need-title-parts-requires
-title-parts-requires c κs = (form (start c), found (c .before .before))
+title-parts-requires c κs =
+    let read = c .before .before in
+    (form (start read), (found (read .before .before), c .before .jamo-of .ensures ∙ ap jamoOf (read .title-at .ensures)))
 
 -- the titlecase is scalar, and there is room for its octets
-write-character-requires-2 : tie.Need-write-character-requires-2
-write-character-requires-2 c κs =
-    let read = c .before .before .before in
+write-character-requires : tie.Need-write-character-requires
+write-character-requires c κs =
+    let read = read-at (c .before .before) in
     let s = start read in
     let octets = expanded-plain (mappingOf (lent s)) (s .args .c .0) _ (title read) (plain (c .before)) in
     (scalar-most _ (scalar-title read), rw octets at (s .pre .1 .1))
@@ -128,26 +128,26 @@ returns-2 : tie.Need-returns-2
 returns-2 c =
     let called = c .before .before in
     let whole = called .before .before in
-    let read = whole .before .before in
+    let read = read-at (whole .before) in
     let s = start read in
     filled-plain (mappingOf (lent s)) (s .args .c .0) _ (title read) (plain whole) (s .args .out .now) _ _
-    (called .write-character2 .ensures)
+    (called .write-character .ensures)
 
 -- the titlecase has these parts, is scalar and unfolds, and there is room
 write-unfolded-requires : tie.Need-write-unfolded-requires
 write-unfolded-requires c κs =
     let parted = c .before .before in
-    let read = parted .before in
+    let read = read-at parted in
     let s = start read in
     let octets = expanded-title (mappingOf (lent s)) (s .args .c .0) _ (title read) in
     let split = parts-some (parts parted) (c .before .if1 .left) in
     (form s, (split, (scalar-title read, (bounded read, rw octets at (s .pre .1 .1)))))
 
 -- for few asks
-add-t20 : tie.Need-add-t20
-add-t20 c =
+add-t23 : tie.Need-add-t23
+add-t23 c =
     let called = c .before .before .before in
-    let read = called .before .before .before .before in
+    let read = read-at (called .before .before .before) in
     omega (arith, called .write-unfolded .ensures .counted .asked, bounded-asks (bounded read))
 
 same-length-3 : tie.Need-same-length-3
@@ -157,7 +157,7 @@ same-length-3 c = search needs
 returns-3 : tie.Need-returns-3
 returns-3 c =
     let called = c .before .before .before in
-    let read = called .before .before .before .before in
+    let read = read-at (called .before .before .before) in
     let s = start read in
     filled-title (mappingOf (lent s)) (s .args .c .0) _ (title read) (s .args .out .now)
     (called .write-unfolded .result) _ (called .write-unfolded .ensures)
@@ -169,15 +169,17 @@ write-expansion-spec =
     find-entry-requires
     enum-known-i
     enum-told
-    write-character-requires
+    write-unlisted-requires
     same-length
     returns
     title-at-requires
+    jamo-of-requires
+    slice-aggregate-title-parts
     title-parts-requires
-    write-character-requires-2
+    write-character-requires
     same-length-2
     returns-2
     write-unfolded-requires
-    add-t20
+    add-t23
     same-length-3
     returns-3)

@@ -1,86 +1,43 @@
--- `table::parts_of` meets its contract: the answer of the search says which case of `partsIn` holds.
+-- `table::parts_of` meets its contract: whether the code point is a syllable says which case of `partsOf` holds.
 -- Assumes nothing.
-use native.Mathlib.Omega.{arith}
-use mathlib.Core.Path.{_≡_, sym, ap, _∙_}
-use mathlib.Core.Option.{some}
+use mathlib.Core.Path.{sym, _∙_}
 use borrow.Author.Needs.{needs}
-use Rattle.table.specs.Table.{Table, table, entryOf}
-use Rattle.table.specs.Promises.{placeFound, Ascending}
-use Rattle.table.proofs.Form.{formed-ascending, entryOf-some, partsOf-none}
-use Rattle.table.proofs.Search.{candidates-none}
+use Rattle.table.specs.Table.{table}
+use Rattle.table.proofs.Form.{partsOf-syllable, partsOf-other}
 use Rattle.table.proofs.parts_of.Statement.{statement}
 use Rattle.table.proofs.parts_of.Tie as tie
 
--- at the function's entry: the table, and that its code points ascend
-abbrev lent : tie.Start → Table
-lent s = table (s .args .entries .now) (s .args .pool .now)
+-- where the code point was looked at: the function's entry
+abbrev start : tie.After-is-syllable → tie.Start
+start c = c .before .before .before .before
 
-ascending : (s : tie.Start) → Ascending (s .args .entries .now)
-ascending s = formed-ascending (lent s) (s .pre)
+is-syllable-requires : tie.Need-is-syllable-requires
+is-syllable-requires c κs = search needs
 
--- where an entry was found: the function's entry, and which it is
-abbrev start : tie.After-i → tie.Start
-start c = c .before .before .before .before .before .before .before
+-- it is a syllable
+parts-among-requires : tie.Need-parts-among-requires
+parts-among-requires c κs =
+    (sym (c .before .is-syllable .ensures) ∙ c .if1 .taken, start (c .before) .pre .1)
 
-found : (c : tie.After-i) → entryOf (start c .args .entries .now) (start c .args .c .0) ≡ some (c .i .given .0 .0)
-found c = sym (c .before .before .find-around .ensures) ∙ ap placeFound (c .i .given .1)
-
-within-reach-requires : tie.Need-within-reach-requires
-within-reach-requires c κs = ascending (c .before .before)
-
-slice-aggregate-result : tie.Need-slice-aggregate-result
-slice-aggregate-result c = search needs
-
--- no entry within reach, no parts
 returns : tie.Need-returns
 returns c =
-    let called = c .before .before in
-    let s = called .before .before .before in
-    sym (partsOf-none (lent s) (s .args .c .0) (candidates-none (rw (c .before .if1 .taken) at (called .within-reach .ensures))))
+    let looked = c .before .before in
+    let a = start looked .args in
+    let is = sym (looked .is-syllable .ensures) ∙ c .before .if1 .taken in
+    c .parts-among .ensures ∙ sym (partsOf-syllable (table (a .entries .now) (a .pool .now)) (a .c .0) is)
 
-find-around-requires : tie.Need-find-around-requires
-find-around-requires c κs =
-    let called = c .before in
-    (ascending (called .before .before .before), (omega arith, called .within-reach .ensures))
+entry-parts-requires : tie.Need-entry-parts-requires
+entry-parts-requires c κs = search needs
 
-enum-known-i : tie.Need-enum-known-i
-enum-known-i c = search needs
-
--- the entry is one
-parts-at-requires : tie.Need-parts-at-requires
-parts-at-requires c κs =
-    let s = start (c .before) in
-    (s .pre, entryOf-some (s .args .entries .now) (s .args .c .0) _ (found (c .before)) .0)
-
--- the parts of an entry
+-- it is none
 returns-2 : tie.Need-returns-2
-returns-2 c = rw (found (c .before .before)) (c .parts-at .ensures)
-
-enum-told : tie.Need-enum-told
-enum-told c = search needs
-
-slice-aggregate-result-2 : tie.Need-slice-aggregate-result-2
-slice-aggregate-result-2 c = search needs
-
--- no entry, no parts
-returns-3 : tie.Need-returns-3
-returns-3 c =
-    let told = c .before in
-    let s = told .before .before .before .before .before .before .before in
-    let nowhere = sym (told .before .before .find-around .ensures) ∙ ap placeFound (told .enum-told .given .1) in
-    sym (partsOf-none (lent s) (s .args .c .0) nowhere)
+returns-2 c =
+    let looked = c .before .before in
+    let a = start looked .args in
+    let other = sym (looked .is-syllable .ensures) ∙ c .before .if1 .left in
+    c .entry-parts .ensures ∙ sym (partsOf-other (table (a .entries .now) (a .pool .now)) (a .c .0) other)
 
 pub parts-of-spec : {M : Type 1} → statement M
 parts-of-spec =
     tie.close
-    (tie.spec
-    within-reach-requires
-    slice-aggregate-result
-    returns
-    find-around-requires
-    enum-known-i
-    parts-at-requires
-    returns-2
-    enum-told
-    slice-aggregate-result-2
-    returns-3)
+    (tie.spec is-syllable-requires parts-among-requires returns entry-parts-requires returns-2)

@@ -12,6 +12,7 @@ use lib.ListN.{length, getD}
 use borrow.Author.Needs.{needs}
 use borrow.Author.Tests.{le-leb, lt-leb}
 use Rattle.terms.specs.Lists.{when}
+use Rattle.hangul.proofs.Syllables.{length-jamoOf}
 use Rattle.table.specs.Mapping.{Mapping}
 use Rattle.table.specs.Table.{table, mappingOf}
 use Rattle.decompose.specs.Promises.{measured, measuredSize}
@@ -23,6 +24,7 @@ use borrow.Fn.PlainCycle.{Measures, is, falls, and}
 use Rattle.decompose.proofs.depth.measure.Reads as reads
 use Rattle.decompose.proofs.depth.measure.Kinds as kinds
 use Rattle.decompose.proofs.depth.+measure.Lts-measure as lts
+use Rattle.hangul.proofs.jamo_of.Reads as jamo-of-reads
 use Rattle.table.proofs.parts_of.Reads as parts-of-reads
 use Rattle.decompose.proofs.depth.+measure.{statement}
 use Rattle.decompose.proofs.depth.+measure.Tie.{close}
@@ -39,7 +41,7 @@ abbrev below : ℕ → In 3 kinds.ps
 below t = and 3 kinds.ps (falls 3 kinds.ps _<_ μ-measure t) reads.Pre
 
 abbrev claims : ℕ → lts.Claims
-claims t = (parts-of-reads.Asked, parts-of-reads.Learnt, below t, reads.Post)
+claims t = (jamo-of-reads.Asked, jamo-of-reads.Learnt, parts-of-reads.Asked, parts-of-reads.Learnt, below t, reads.Post)
 
 abbrev Inv-loop : lts.InvT-loop
 Inv-loop levels-left parts room entries pool total₀ i₀ total i =
@@ -71,12 +73,16 @@ parts-decide t c =
     let s = entry t c in
     measured-parts (s .pre .1 .1) (s .args .levels-left) (s .args .room) (level t c)
 
--- where a part was looked up: the loop's head, the function's entry, the room left, and the part's measurement
+-- where a part was looked up: the loop's head, the function's entry, that there is a part, the room left, and the part's
+-- measurement
 abbrev head : (t : ℕ) → Of t lts.After-parts-of → Of t lts.At-loop
-head t c = c .before .before .before
+head t c = c .before .before .before .before .before
 
 abbrev start : (t : ℕ) → Of t lts.After-parts-of → Of t lts.Start
 start t c = entry t (head t c .before)
+
+abbrev taken : (t : ℕ) (c : Of t lts.After-parts-of) → head t c .loop .i < length (start t c .args .parts .now)
+taken t c = c .before .before .before .before .loop-test .taken
 
 abbrev left : (t : ℕ) → Of t lts.After-parts-of → ℕ
 left t c = start t c .args .room - head t c .loop .total
@@ -91,14 +97,14 @@ more : (t : ℕ) (c : Of t lts.After-parts-of) (k : ℕ) → part t c ≡ some k
     → let l = head t c in
     let s = start t c in
     Measuring (mapping t s) (s .args .levels-left - 1) (s .args .parts .now) (s .args .room) (l .loop .total + k) (l .loop .i + 1)
-more t c k fits = measuring-more (head t c .loop .inv) (c .before .before .loop-test .taken) fits
+more t c k fits = measuring-more (head t c .loop .inv) (taken t c) fits
 
 -- and where it doesn't, the code point is too much
 stop : (t : ℕ) (c : Of t lts.After-parts-of) → part t c ≡ none
     → let s = start t c in
     none ≡ measured (mapping t s) (s .args .levels-left) (s .args .room) (s .args .c .0)
 stop t c too-much =
-    measuring-stop (head t c .loop .inv) (c .before .before .loop-test .taken) too-much ∙ sym (parts-decide t (head t c .before))
+    measuring-stop (head t c .loop .inv) (taken t c) too-much ∙ sym (parts-decide t (head t c .before))
 
 -- a part with no parts of its own is one code point
 whole : (t : ℕ) (c : Of t lts.Then2) → part t (c .before) ≡ when (leb 1 (left t (c .before))) 1
@@ -132,14 +138,20 @@ loop-holds : (t : ℕ) → Of t lts.Need-loop-holds
 loop-holds t c = measuring-start
 
 -- an index fits
-mul-t14 : (t : ℕ) → Of t lts.Need-mul-t14
-mul-t14 t c = omega (arith, c .loop-test .taken)
+mul-t15 : (t : ℕ) → Of t lts.Need-mul-t15
+mul-t15 t c = omega (arith, c .loop-test .taken)
 
-shared-slice-read-t17 : (t : ℕ) → Of t lts.Need-shared-slice-read-t17
-shared-slice-read-t17 t c = c .before .loop-test .taken
+shared-slice-read-t18 : (t : ℕ) → Of t lts.Need-shared-slice-read-t18
+shared-slice-read-t18 t c = c .before .loop-test .taken
+
+jamo-of-requires : (t : ℕ) → Of t lts.Need-jamo-of-requires
+jamo-of-requires t c κs = search needs
+
+slice-aggregate-parts-of : (t : ℕ) → Of t lts.Need-slice-aggregate-parts-of
+slice-aggregate-parts-of t c = length-jamoOf _ ∙ sym (ap length (c .before .jamo-of .ensures))
 
 parts-of-requires : (t : ℕ) → Of t lts.Need-parts-of-requires
-parts-of-requires t c κs = entry t (c .before .before .before) .pre .1 .0
+parts-of-requires t c κs = (entry t (c .before .before .before .before .before) .pre .1 .0, c .before .jamo-of .ensures)
 
 -- a whole part, and no room
 returns-2 : (t : ℕ) → Of t lts.Need-returns-2
@@ -189,10 +201,10 @@ returns-3 t c =
 
 -- an index fits
 add-i : (t : ℕ) → Of t lts.Need-add-i
-add-i t c = omega (arith, c .before .before .before .loop-test .taken)
+add-i t c = omega (arith, taken t (c .before))
 
 loop-less : (t : ℕ) → Of t lts.Need-loop-less
-loop-less t c = omega (arith, c .before .before .before .loop-test .taken)
+loop-less t c = omega (arith, taken t (c .before))
 
 -- one part more, either way
 loop-again : (t : ℕ) → Of t lts.Need-loop-again
@@ -222,8 +234,10 @@ pub +measure-spec : {M : Type 1} → statement M
     lts.spec (claims t) (at t) reads.Post Inv-loop μ-loop
     (returns t)
     (loop-holds t)
-    (mul-t14 t)
-    (shared-slice-read-t17 t)
+    (mul-t15 t)
+    (shared-slice-read-t18 t)
+    (jamo-of-requires t)
+    (slice-aggregate-parts-of t)
     (parts-of-requires t)
     (returns-2 t)
     (add-total t)

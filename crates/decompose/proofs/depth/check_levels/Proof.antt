@@ -11,15 +11,17 @@ use mathlib.Core.List.{[]}
 use lib.ListN.{length}
 use borrow.Author.Count.{below-none, below-more}
 use borrow.Author.Needs.{needs}
+use borrow.Author.Tests.{not-true, not-false}
 use Rattle.terms.specs.Lists.{when}
 use Rattle.terms.specs.Refusals.{levelsMost, fullMost, answer, checkOutcome}
+use Rattle.terms.proofs.Checks.{orElse-first, orElse-second}
 use Rattle.terms.proofs.Lowest.{lowest-is, lowest-nowhere}
 use Rattle.table.specs.Mapping.{Mapping}
 use Rattle.table.specs.Layout.{entryCount, codeAt}
 use Rattle.table.specs.Table.{Table, table, refusedAt, partsOf, mappingOf}
-use Rattle.table.proofs.Form.{formed-ascending, entryOf-entry, partsOf-some}
+use Rattle.table.proofs.Form.{formed-parts-at}
 use Rattle.decompose.specs.Levels.{full}
-use Rattle.decompose.specs.TableCheck.{unfolds, faultyLevel}
+use Rattle.decompose.specs.TableCheck.{unfolds, faultyLevel, faultySyllable, levelFault}
 use Rattle.decompose.specs.Promises.{measured, measuredSize}
 use Rattle.decompose.proofs.Walk.{parts-none, unfolds-whole, parts-some}
 use Rattle.decompose.proofs.depth.check_levels.Statement.{statement}
@@ -63,8 +65,7 @@ taken : (c : tie.After-parts-at Inv-loop μ-loop)
 taken c =
     let l = head c in
     let t = lent l in
-    let one = entryOf-entry (t .entries) (formed-ascending t (start l .pre)) (l .loop .i) (omega arith) in
-    c .parts-at .ensures ∙ sym (partsOf-some t (codeAt (t .entries) (l .loop .i)) (l .loop .i) one)
+    c .parts-at .ensures ∙ sym (formed-parts-at t (start l .pre) (l .loop .i) (omega arith))
 
 entry-count-requires : tie.Need-entry-count-requires Inv-loop μ-loop
 entry-count-requires c κs = search needs
@@ -101,7 +102,8 @@ returns c =
     let i = l .loop .i in
     let measurement = sym (called .measure .ensures) ∙ ap measuredSize (c .before .enum-told .given .1) in
     let faulty = too-much (mappingOf t) (codeAt (t .entries) i) (rw (read .code-at .ensures) at measurement) in
-    let found = lowest-is (faultyLevel t) (entryCount (t .entries)) i (omega arith) faulty (l .loop .inv .1) in
+    let n = entryCount (t .entries) in
+    let found = orElse-first _ _ i (lowest-is (faultyLevel t) n i (omega arith) faulty (l .loop .inv .1)) in
     ap checkOutcome (c .refused-at .ensures) ∙ sym (ap (λ (o : Option ℕ). answer (refusedAt 7 o) []) found)
 
 enum-told-2 : tie.Need-enum-told-2 Inv-loop μ-loop
@@ -128,12 +130,38 @@ loop-again c =
     in
     (search needs, below-more _ _ (l .loop .inv .1) sound)
 
--- every entry was passed
-returns-2 : tie.Need-returns-2 Inv-loop μ-loop
-returns-2 c =
+-- every entry was passed: the syllables decide
+passed : (c : tie.After-loop Inv-loop μ-loop) → let t = lent (c .before) in
+    levelFault t ≡ when (faultySyllable (mappingOf t)) (entryCount (t .entries))
+passed c =
     let l = c .before in
     let t = lent l in
-    let nowhere = lowest-nowhere (faultyLevel t) (entryCount (t .entries)) (λ k h. l .loop .inv .1 k (omega arith)) in
+    orElse-second _ _ (lowest-nowhere (faultyLevel t) (entryCount (t .entries)) (λ k h. l .loop .inv .1 k (omega arith)))
+
+syllables-fit-requires : tie.Need-syllables-fit-requires Inv-loop μ-loop
+syllables-fit-requires c κs = start (c .before) .pre
+
+refused-at-requires-2 : tie.Need-refused-at-requires-2 Inv-loop μ-loop
+refused-at-requires-2 c κs = search needs
+
+-- a syllable has too much
+returns-2 : tie.Need-returns-2 Inv-loop μ-loop
+returns-2 c =
+    let called = c .before .before in
+    let l = called .before .before in
+    let t = lent l in
+    let faulty = not-false (faultySyllable (mappingOf t)) (sym (called .syllables-fit .ensures) ∙ not-true _ (c .before .if2 .taken)) in
+    let found = passed (called .before) ∙ ap (λ b. when b (entryCount (t .entries))) faulty
+    ∙ ap some (sym (l .before .entry-count .ensures)) in
+    ap checkOutcome (c .refused-at2 .ensures) ∙ sym (ap (λ (o : Option ℕ). answer (refusedAt 7 o) []) found)
+
+-- none has
+returns-3 : tie.Need-returns-3 Inv-loop μ-loop
+returns-3 c =
+    let called = c .before in
+    let t = lent (called .before .before) in
+    let sound = not-true (faultySyllable (mappingOf t)) (sym (called .syllables-fit .ensures) ∙ not-false _ (c .if2 .left)) in
+    let nowhere = passed (called .before) ∙ ap (λ b. when b (entryCount (t .entries))) sound in
     sym (ap (λ (o : Option ℕ). answer (refusedAt 7 o) []) nowhere)
 
 pub check-levels-spec : {M : Type 1} → statement M
@@ -154,4 +182,7 @@ check-levels-spec =
     add-i
     loop-less
     loop-again
-    returns-2)
+    syllables-fit-requires
+    refused-at-requires-2
+    returns-2
+    returns-3)

@@ -1,8 +1,8 @@
--- `builder::checks::has_surrogate` meets its contract: at each return the tests that led there decide those of `surrogate`. The
+-- `builder::checks::is_barred` meets its contract: at each return the tests that led there decide those of `barred`. The
 -- loop's invariant: all parts are scalar if what is left are. The measure is what is left.
 -- Assumes nothing.
 use mathlib.Core.Path.{_≡_, refl, sym, _∙_, ap}
-use mathlib.Core.Bool.{false, not, and-false}
+use mathlib.Core.Bool.{false, not, and-false, or-true, or-false}
 use Prim.Native.Nat.{_≤_, _-_}
 use native.Mathlib.Omega.{arith}
 use borrow.Author.Needs.{needs}
@@ -12,9 +12,9 @@ use Rattle.terms.specs.CodePoints.{scalar}
 use Rattle.terms.specs.Lists.{all}
 use Rattle.ucd.specs.Lines.{Properties, withParts, saysNothing}
 use Rattle.ucd.proofs.Walks.{all-more, all-fails, all-end}
-use Rattle.builder.specs.Builder.{surrogate}
-use Rattle.builder.proofs.checks.has_surrogate.Statement.{statement}
-use Rattle.builder.proofs.checks.has_surrogate.Tie as tie
+use Rattle.builder.specs.Builder.{barred}
+use Rattle.builder.proofs.checks.is_barred.Statement.{statement}
+use Rattle.builder.proofs.checks.is_barred.Tie as tie
 
 abbrev Inv-loop : tie.InvT-loop
 Inv-loop parts i₀ i = (i ≤ length parts) × (all scalar parts ≡ all scalar (drop i parts))
@@ -33,19 +33,22 @@ start-of c = c .before .before .before
 maps : (c : tie.Else1 Inv-loop μ-loop) → saysNothing (given (start-of c)) ≡ false
 maps c = sym (c .before .says-nothing .ensures) ∙ c .if1 .left
 
--- where its code point and its titlecase are scalar: the parts decide
-abbrev mapped : tie.Else3 Inv-loop μ-loop → tie.Else1 Inv-loop μ-loop
-mapped c = c .before .before .before .before .before .before
+-- where its code point and its titlecase are scalar, and it is for no syllable: the parts decide
+abbrev mapped : tie.Else4 Inv-loop μ-loop → tie.Else1 Inv-loop μ-loop
+mapped c = c .before .before .before .before .before .before .before .before
 
-decide : (c : tie.Else3 Inv-loop μ-loop)
+decide : (c : tie.Else4 Inv-loop μ-loop)
     → let p = given (start-of (mapped c)) in
-    surrogate p ≡ not (all scalar (p .parts))
+    barred p ≡ not (all scalar (p .parts))
 decide c =
-    let code = c .before .before .before in
+    let title = c .before .before in
+    let code = title .before .before .before in
     simp (
       maps (mapped c),
       sym (code .before .is-scalar .ensures) ∙ not-false _ (code .if2 .left),
-      sym (c .before .is-scalar2 .ensures) ∙ not-false _ (c .if3 .left),
+      sym (title .before .is-scalar2 .ensures) ∙ not-false _ (title .if3 .left),
+      sym (c .before .is-syllable .ensures) ∙ c .if4 .left,
+      or-false,
     )
 
 says-nothing-requires : tie.Need-says-nothing-requires Inv-loop μ-loop
@@ -74,6 +77,18 @@ returns-3 c =
       and-false,
     )
 
+is-syllable-requires : tie.Need-is-syllable-requires Inv-loop μ-loop
+is-syllable-requires c κs = search needs
+
+-- a syllable
+returns-4 : tie.Need-returns-4 Inv-loop μ-loop
+returns-4 c =
+    simp (
+      maps (c .before .before .before .before .before .before .before .before),
+      sym (c .before .is-syllable .ensures) ∙ c .if4 .taken,
+      or-true,
+    )
+
 loop-holds : tie.Need-loop-holds Inv-loop μ-loop
 loop-holds c = (search needs, refl)
 
@@ -87,10 +102,10 @@ is-scalar-requires-3 : tie.Need-is-scalar-requires-3 Inv-loop μ-loop
 is-scalar-requires-3 c κs = search needs
 
 -- a part
-returns-4 : tie.Need-returns-4 Inv-loop μ-loop
-returns-4 c =
+returns-5 : tie.Need-returns-5 Inv-loop μ-loop
+returns-5 c =
     let inside = c .before .before .before in
-    let here = sym (c .before .is-scalar3 .ensures) ∙ not-true _ (c .if4 .taken) in
+    let here = sym (c .before .is-scalar3 .ensures) ∙ not-true _ (c .if5 .taken) in
     let l = inside .before in
     sym (decide (l .before) ∙ ap not (l .loop .inv .1 ∙ all-fails scalar _ _ (inside .loop-test .taken) here))
 
@@ -104,17 +119,17 @@ loop-less c = omega arith
 loop-again : tie.Need-loop-again Inv-loop μ-loop
 loop-again c =
     let inside = c .before .before .before in
-    let here = sym (c .before .is-scalar3 .ensures) ∙ not-false _ (c .if4 .left) in
+    let here = sym (c .before .is-scalar3 .ensures) ∙ not-false _ (c .if5 .left) in
     (omega arith, inside .before .loop .inv .1 ∙ all-more scalar _ _ (inside .loop-test .taken) here)
 
 -- no part
-returns-5 : tie.Need-returns-5 Inv-loop μ-loop
-returns-5 c =
+returns-6 : tie.Need-returns-6 Inv-loop μ-loop
+returns-6 c =
     let l = c .before in
     sym (decide (l .before) ∙ ap not (l .loop .inv .1 ∙ all-end scalar _ _ (c .loop-test .left)))
 
-pub has-surrogate-spec : {M : Type 1} → statement M
-has-surrogate-spec =
+pub is-barred-spec : {M : Type 1} → statement M
+is-barred-spec =
     tie.close
     (tie.spec
     Inv-loop
@@ -125,12 +140,14 @@ has-surrogate-spec =
     returns-2
     is-scalar-requires-2
     returns-3
+    is-syllable-requires
+    returns-4
     loop-holds
     mul-is-scalar
     shared-slice-read-is-scalar
     is-scalar-requires-3
-    returns-4
+    returns-5
     add-i
     loop-less
     loop-again
-    returns-5)
+    returns-6)

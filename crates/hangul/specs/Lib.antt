@@ -1,0 +1,2 @@
+pub mod Hangul
+pub mod Promises
