@@ -6,6 +6,7 @@
 //! that definition; speed is no aim, except that no input may take forever.
 
 pub mod collate;
+pub mod hangul;
 pub mod key;
 pub mod lists;
 pub mod many;

@@ -1,7 +1,8 @@
 //! The mapping table: two slices of 32-bit numbers, checked and then read into a map.
 
 use crate::refusal::Refusal;
-use crate::unfold;
+use crate::{hangul, unfold};
+use std::borrow::Cow;
 use std::collections::BTreeMap;
 
 pub const ENTRIES_MOST: usize = 16_384;
@@ -17,7 +18,8 @@ pub struct Mapping {
     pub parts: Vec<u32>,
 }
 
-/// A table that has the form. "A code point without an entry maps to itself."
+/// A table that has the form. "A code point without an entry maps to itself", but for Hangul syllables, whose parts are never an
+/// entry's.
 #[derive(Clone, Debug, Default)]
 pub struct Table {
     pub mappings: BTreeMap<u32, Mapping>,
@@ -28,8 +30,12 @@ impl Table {
         self.mappings.get(&code_point).and_then(|mapping| mapping.titlecase)
     }
 
-    pub fn parts(&self, code_point: u32) -> &[u32] {
-        self.mappings.get(&code_point).map_or(&[], |mapping| &mapping.parts)
+    /// What a code point decomposes into; empty if it doesn't.
+    pub fn parts(&self, code_point: u32) -> Cow<'_, [u32]> {
+        if hangul::is_syllable(code_point) {
+            return hangul::parts(code_point).into();
+        }
+        self.mappings.get(&code_point).map_or(Cow::default(), |mapping| (&mapping.parts).into())
     }
 }
 
@@ -67,11 +73,12 @@ fn check_sizes(entries: &[u32], pool: &[u32]) -> Result<(), Refusal> {
     Ok(())
 }
 
-/// 4: "an entry's code point or titlecase not scalar, or its code point not above the entry before".
+/// 4: "an entry's code point or titlecase not scalar, or its code point not above the entry before", and "an entry for a code
+/// point in that range", AC00 to D7A3.
 fn check_code_points(rows: &[&[u32]]) -> Result<(), Refusal> {
     for (index, row) in rows.iter().enumerate() {
         let falls = index > 0 && row[0] <= rows[index - 1][0];
-        if !is_scalar(row[0]) || !is_scalar(row[1]) || falls {
+        if !is_scalar(row[0]) || !is_scalar(row[1]) || falls || hangul::is_syllable(row[0]) {
             return Err(refuse_entry(4, index));
         }
     }

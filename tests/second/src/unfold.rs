@@ -1,9 +1,11 @@
 //! Levels, full decompositions and their lookups: "Unfolding a code point .. is one ask for its decomposition and then, if it
 //! decomposes, the unfolding of each part in turn."
 
+use crate::hangul::{LEADING, TRAILING, VOWELS};
 use crate::refusal::Refusal;
 use crate::table::{refuse_entry, Table};
 use std::collections::HashMap;
+use std::ops::Range;
 
 pub const LEVEL_MOST: u128 = 8;
 pub const FULL_MOST: u128 = 32;
@@ -39,7 +41,7 @@ impl Heights {
             None => {}
         }
         self.known.insert(code_point, Known::Open);
-        let height = self.from_parts(table.parts(code_point), table);
+        let height = self.from_parts(&table.parts(code_point), table);
         self.known.insert(code_point, Known::Done(height));
         height
     }
@@ -57,9 +59,23 @@ impl Heights {
         }
         Some(sum)
     }
+
+    /// Of these code points the first of each height that they have.
+    fn one_of_each(&mut self, code_points: Range<u32>, table: &Table) -> Vec<u32> {
+        let (mut chosen, mut seen) = (Vec::new(), Vec::new());
+        for code_point in code_points {
+            let height = self.of(code_point, table);
+            if !seen.contains(&height) {
+                seen.push(height);
+                chosen.push(code_point);
+            }
+        }
+        chosen
+    }
 }
 
-/// 7: "an entry whose code point has no level, a level over 8, or a full decomposition over 32 code points".
+/// 7: "an entry whose code point has no level, a level over 8, or a full decomposition over 32 code points". "If no entry is at
+/// fault but a syllable is, the detail is the number of entries."
 pub fn check_levels(table: &Table) -> Result<(), Refusal> {
     let mut heights = Heights::default();
     for (index, &code_point) in table.mappings.keys().enumerate() {
@@ -67,7 +83,27 @@ pub fn check_levels(table: &Table) -> Result<(), Refusal> {
             return Err(refuse_entry(7, index));
         }
     }
+    if !are_syllables_within(&mut heights, table) {
+        return Err(refuse_entry(7, table.mappings.len()));
+    }
     Ok(())
+}
+
+/// Whether no syllable is at fault, of all 11,172. A syllable's height is made of its parts' heights alone, and every leading
+/// consonant stands with every vowel and with every trailing consonant or none. So it is enough to look at one part of each
+/// height in each of the three rows: any other syllable is as high as one of those.
+fn are_syllables_within(heights: &mut Heights, table: &Table) -> bool {
+    let [leading, vowels, trailing] = [LEADING, VOWELS, TRAILING].map(|row| heights.one_of_each(row, table));
+    for &first in &leading {
+        for &vowel in &vowels {
+            let mut syllables = vec![vec![first, vowel]];
+            syllables.extend(trailing.iter().map(|&last| vec![first, vowel, last]));
+            if !syllables.iter().all(|parts| is_within(heights.from_parts(parts, table))) {
+                return false;
+            }
+        }
+    }
+    true
 }
 
 fn is_within(height: Option<Height>) -> bool {
@@ -82,7 +118,7 @@ pub fn unfold(code_point: u32, table: &Table, full: &mut Vec<u32>) -> u64 {
         return 1;
     }
     let mut asks = 1;
-    for &part in parts {
+    for &part in parts.iter() {
         asks += unfold(part, table, full);
     }
     asks

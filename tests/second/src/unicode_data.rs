@@ -1,5 +1,6 @@
 //! The builder: "takes a state by value, one line without its line end, and the two slices. It appends at most one entry."
 
+use crate::hangul::is_syllable;
 use crate::table::{is_scalar, ENTRIES_MOST, POOL_MOST};
 
 pub const LINE_MOST: usize = 512;
@@ -44,7 +45,8 @@ pub fn add_line(state: State, line: &[u8], entries: &mut [u32], pool: &mut [u32]
     [number, 0, 0, after.entries_used, after.pool_used, after.next]
 }
 
-/// The checks in the paper's order, 28 and then 20 to 27 with 29 between 23 and 24, and then the entry.
+/// The checks in the paper's order, 28 and then 20 to 27 with 29 between 23 and 24, and then the entry. "A line with a mapping"
+/// for a Hangul syllable "gets 25" too.
 fn try_line(state: State, line: &[u8], entries: &mut [u32], pool: &mut [u32]) -> Result<State, u64> {
     if is_impossible(state, entries.len(), pool.len()) {
         return Err(28);
@@ -54,6 +56,9 @@ fn try_line(state: State, line: &[u8], entries: &mut [u32], pool: &mut [u32]) ->
     }
     let said = read_line(line)?;
     if said.has_mapping() && said.has_surrogate() {
+        return Err(25);
+    }
+    if said.has_mapping() && is_syllable(said.code_point) {
         return Err(25);
     }
     if u64::from(said.code_point) < state.next {
