@@ -81,7 +81,7 @@ build || fail "the comparison doesn't build"
 output=$("$COMPARE") || { echo "$output"; fail "the comparison fails without any mistake"; }
 
 # A comparison that can't be made is no difference.
-must_be_error MZ_PARTS=9
+must_be_error MZ_PARTS=0
 must_be_error MZ_PARTS=
 must_be_error MZ_CASES=0
 must_be_error MZ_CASES=many

@@ -5,13 +5,16 @@
 //! at fault, or a part would run no case. A read or write outside a lent slice ends the process by SIGSEGV (see `pages`).
 //!
 //! Variables: MZ_SEED and MZ_CASES (the random parts), MZ_UNICODE_DATA and MZ_NFKD (files of part 2), UTF8_TEST (the published
-//! stress test, if it is at hand), MZ_SHORT=yes (part 2 without the scalar code points and NFKD, fewer cases in 3, 4 and 6 to 8),
+//! stress test, if it is at hand), MZ_SHORT=yes (part 2 without the scalar code points and NFKD, fewer cases in 3, 4 and 6 to 9),
 //! MZ_PARTS (the numbers of the parts to run, all without it).
 
 mod abi;
 mod both;
 mod building;
 mod cases;
+mod example_hangul;
+mod example_hangul_lines;
+mod example_hangul_tables;
 mod example_lines;
 mod example_lists;
 mod example_many;
@@ -44,6 +47,7 @@ mod sharing;
 mod small;
 mod stop;
 mod stress;
+mod syllables;
 mod tables;
 mod texts;
 
@@ -61,7 +65,7 @@ struct Part {
     run: fn(&Settings) -> Result<u64, Stop>,
 }
 
-const PARTS: [Part; 8] = [
+const PARTS: [Part; 9] = [
     Part { number: '1', name: "part 1, examples", run: examples::run },
     Part { number: '2', name: "part 2, UnicodeData", run: published::run },
     Part { number: '3', name: "part 3, UTF-8 sequences", run: stress::run },
@@ -70,6 +74,7 @@ const PARTS: [Part; 8] = [
     Part { number: '6', name: "part 6, records", run: records::run },
     Part { number: '7', name: "part 7, lists", run: lists::run },
     Part { number: '8', name: "part 8, many", run: many::run },
+    Part { number: '9', name: "part 9, Hangul", run: syllables::run },
 ];
 
 /// The parts that a list of numbers names, in their order.

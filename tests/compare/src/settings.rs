@@ -25,7 +25,7 @@ impl Settings {
             nfkd: text("MZ_NFKD")?.unwrap_or_default(),
             utf8_test: text("UTF8_TEST")?.filter(|path| !path.is_empty()),
             short: is_short()?,
-            parts: text("MZ_PARTS")?.unwrap_or("12345678".to_string()),
+            parts: text("MZ_PARTS")?.unwrap_or("123456789".to_string()),
         })
     }
 }

@@ -16,6 +16,9 @@ const EDGES: [u8; 26] = [
     0xF3, 0xF4, 0xF5, 0xF8, 0xFF,
 ];
 
+/// Over the empty table a key is at most so many times as long as its text: a Hangul syllable becomes three jamo.
+const KEY_GROWTH: usize = 3;
+
 pub fn run(settings: &Settings) -> Result<u64, Stop> {
     let table = Table::new(vec![], vec![])?;
     let mut cases = listed(&table)?;
@@ -31,7 +34,7 @@ pub fn run(settings: &Settings) -> Result<u64, Stop> {
 
 /// Whether a text is valid, as all three say.
 fn is_valid(table: &Table, text: &[u8]) -> Result<bool, String> {
-    let answer = table.prepare(true, 3, text, text.len())?;
+    let answer = table.prepare(true, 3, text, KEY_GROWTH * text.len())?;
     let valid = answer.row[3] == 1;
     if answer.row[0] != 0 || valid != std::str::from_utf8(text).is_ok() {
         return Err(format!("{}: both programs answer {:?}, the standard library differs", hex(text), answer.row));
