@@ -19,6 +19,8 @@ pub const ENOUGH: u64 = 20_000;
 struct Tally {
     calls: BTreeMap<u64, u64>,
     lines: BTreeMap<u64, u64>,
+    /// 7 where no entry is at fault, but a syllable is.
+    syllables: u64,
     matches: u64,
     runs: u64,
 }
@@ -65,6 +67,7 @@ fn one_pair(random: &mut Random, tally: &mut Tally, table: &Table) -> Result<(),
     let case = texts::case(random, table);
     let row = table.make_all_calls(&case)?;
     *tally.calls.entry(row[0]).or_default() += 1;
+    tally.syllables += (row[0] == 7 && row[2] == table.entries.len() as u64 / 4) as u64;
     if row[3] == 1 && row[5] > 0 {
         tally.matches += 1;
         tally.runs += ((row[4], row[5]) != (row[6], row[7])) as u64;
@@ -110,13 +113,13 @@ fn one_file(random: &mut Random, tally: &mut Tally, published: &Published) -> Re
 impl Tally {
     /// Prints how often each answer came. It is an error if one that could come never did.
     fn report(&self, cases: u64) -> Result<(), Stop> {
-        println!("  answers to pairs of texts: {}", list(&self.calls));
+        println!("  answers to pairs of texts: {}; of 7 for a syllable: {}", list(&self.calls), self.syllables);
         println!("  answers to lines: {}", list(&self.lines));
         println!("  matches: {}, of them with another place in the text than in the key: {}", self.matches, self.runs);
         let calls = (0..=8).filter(|number| !self.calls.contains_key(number));
         let lines = std::iter::once(0).chain(20..=29).filter(|number| !self.lines.contains_key(number));
         let missing: Vec<u64> = calls.chain(lines).collect();
-        if cases >= ENOUGH && (!missing.is_empty() || self.runs == 0) {
+        if cases >= ENOUGH && (!missing.is_empty() || self.runs == 0 || self.syllables == 0) {
             return Err(Stop::Error(format!("answers that never came: {missing:?}")));
         }
         Ok(())

@@ -1,5 +1,6 @@
 //! Faults put into tables: at the first entry, at the last, or anywhere; one for each thing that 3 to 7 look for.
 
+use crate::korean::EDGES;
 use crate::random::Random;
 use crate::tables::Slices;
 
@@ -37,17 +38,18 @@ fn spoil_lengths(random: &mut Random, (entries, pool): &mut Slices) {
     }
 }
 
-/// 4: a code point or titlecase that isn't scalar, or code points that don't ascend.
+/// 4: a code point or titlecase that isn't scalar, an entry for a syllable, or code points that don't ascend.
 fn spoil_code_point(random: &mut Random, (entries, _): &mut Slices) {
     if entries.len() < 4 {
         return;
     }
     let row = 4 * place(random, entries.len() / 4);
-    match random.below(4) {
+    match random.below(5) {
         0 => entries[row] = random.pick(&NOT_SCALAR),
         1 => entries[row + 1] = random.pick(&NOT_SCALAR),
-        2 if row >= 4 => entries[row] = entries[row - 4],
-        3 if row >= 4 => entries.swap(row, row - 4),
+        2 => entries[row] = random.pick(&EDGES),
+        3 if row >= 4 => entries[row] = entries[row - 4],
+        4 if row >= 4 => entries.swap(row, row - 4),
         _ => entries[row] = entries[row].wrapping_sub(1),
     }
 }

@@ -4,14 +4,14 @@ use crate::random::Random;
 use second::unicode_data::State;
 
 /// What may stand in field 0, 12 or 14, well formed or not.
-const CODE_POINTS: [&str; 30] = [
+const CODE_POINTS: [&str; 34] = [
     "0041", "041", "41", "00041", "000041", "010000", "10000", "10FFFF", "110000", "0FFFF", "FFFFF", "D7FF", "D800", "DBFF",
     "DFFF", "E000", "00e9", "00G1", "0041 ", " 0041", "1000000", "FFFFFF", "FFFFFFFF", "+041", "0x41", "004:", "00@1", "0000",
-    "FFFF", "",
+    "FFFF", "ABFF", "AC00", "D7A3", "D7A4", "",
 ];
 
 /// What may stand in field 5.
-const DECOMPOSITIONS: [&str; 32] = [
+const DECOMPOSITIONS: [&str; 33] = [
     "<compat> 0041",
     "<compat>0041",
     "<compat>  0041",
@@ -40,6 +40,7 @@ const DECOMPOSITIONS: [&str; 32] = [
     "<{> 0041",
     "0041 DFFF",
     "0041 00e9",
+    "AC00 11A8",
     " ",
     "<",
     "<a>",
@@ -101,7 +102,7 @@ pub fn line(random: &mut Random, published: &Published) -> Vec<u8> {
 
 /// A well-formed line of our own.
 fn made(random: &mut Random) -> Vec<u8> {
-    let code_point = random.pick(&[0x41, 0xE9, 0x1C4, 0xD800, 0xDFFF, 0xE000, 0xFFFF, 0x10000, 0x10FFFF]);
+    let code_point = random.pick(&[0x41, 0xE9, 0x1C4, 0xAC00, 0xD7A3, 0xD800, 0xDFFF, 0xE000, 0xFFFF, 0x10000, 0x10FFFF]);
     let itself = format!("{code_point:04X}");
     let parts = match random.below(4) {
         0 => String::new(),

@@ -25,6 +25,7 @@ mod examples;
 mod faults;
 mod hex;
 mod huge;
+mod korean;
 mod lent;
 mod library;
 mod lines;

@@ -1,6 +1,7 @@
 //! Random and hostile tables for part 5, before any fault is put in (see `faults`).
 
 use crate::examples::T;
+use crate::korean::make_korean;
 use crate::made::{lay_out, Mappings};
 use crate::random::Random;
 
@@ -31,7 +32,7 @@ fn alphabet(random: &mut Random, size: usize) -> Vec<u32> {
     letters
 }
 
-/// A table of one of the kinds below.
+/// A table of one of the kinds below, one in four with Hangul in it.
 pub fn any(random: &mut Random) -> Slices {
     let mut mappings = match random.below(12) {
         0 => Mappings::new(),
@@ -42,6 +43,9 @@ pub fn any(random: &mut Random) -> Slices {
         9..=10 => sized(random),
         _ => wide(random),
     };
+    if random.one_in(4) {
+        mappings = make_korean(random, mappings);
+    }
     mappings.retain(|&letter, (titlecase, parts)| !parts.is_empty() || titlecase.is_some_and(|other| other != letter));
     lay_out(&mappings)
 }
@@ -133,12 +137,13 @@ fn wide(random: &mut Random) -> Mappings {
     (1..=levels).map(|level| (letters[level], (None, vec![letters[level - 1]; width]))).collect()
 }
 
-/// A table about as large as one may be: 16,384 entries, 65,536 pool numbers.
+/// A table about as large as one may be: 16,384 entries, 65,536 pool numbers. All jamo have entries in it.
 pub fn at_the_limits(random: &mut Random) -> Slices {
     const FIRST: u32 = 0x100;
     let size = random.pick(&[16_383, 16_384, 16_384, 16_385]);
     let pool_size = random.pick(&[size, 65_535, 65_536, 65_536, 65_537]);
     let shape = random.below(5);
+    let levels = random.pick(&[7, 8]);
     let mut mappings = Mappings::new();
     let mut left: usize = pool_size;
     for index in 0..size {
@@ -151,7 +156,7 @@ pub fn at_the_limits(random: &mut Random) -> Slices {
             1 => letter - 1,
             2 => letter + 1,
             3 => FIRST + random.below(size) as u32,
-            _ if index % 8 == 0 => 0x61,
+            _ if index % levels == 0 => 0x61,
             _ => letter - 1,
         };
         mappings.insert(letter, (Some(0x41), vec![part; count]));

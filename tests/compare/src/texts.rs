@@ -1,18 +1,22 @@
 //! Random and damaged texts, pairs of them that have something in common, and key buffers of every interesting length.
 
 use crate::both::{Case, Table};
+use crate::korean;
 use crate::random::Random;
 use crate::tables::code_point;
 use second::key::key_of;
 use second::utf8::encode;
 
-/// The letters that texts over a table are made of: the table's own, and others.
+/// The letters that texts over a table are made of: the table's own, and others; with Hangul where the table has jamo.
 pub fn letters_of(random: &mut Random, table: &Table) -> Vec<u32> {
     let titlecases = table.entries.chunks_exact(4).flat_map(|row| [row[0], row[1]]);
     let known: Vec<u32> =
         titlecases.chain(table.pool.iter().copied()).filter(|&number| second::table::is_scalar(number)).collect();
     let mut letters: Vec<u32> = (0..4).map(|_| code_point(random)).collect();
     letters.push(0x61);
+    if random.one_in(8) || known.iter().any(|&letter| korean::is_jamo(letter)) {
+        letters.extend((0..4).map(|_| korean::letter(random)));
+    }
     if !known.is_empty() {
         letters.extend((0..12).map(|_| random.pick(&known)));
     }
