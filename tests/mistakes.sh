@@ -90,6 +90,9 @@ must_be_error MZ_SHORT=maybe
 must_be_error MZ_PARTS=2 MZ_UNICODE_DATA=/nowhere
 must_be_error MZ_PARTS=5 MZ_UNICODE_DATA=/dev/null
 must_be_error MZ_PARTS=2 MZ_SHORT= MZ_NFKD=/nowhere
+must_be_error MZ_PARTS=2 MZ_SHORT= MZ_NFKD=build/nfkd.txt MZ_NORMALIZATION=/nowhere
+must_be_error MZ_PARTS=2 MZ_SHORT= MZ_NFKD=build/nfkd.txt MZ_NORMALIZATION=/dev/null
+must_be_error MZ_PARTS=9 MZ_UNICODE_DATA=/dev/null
 must_be_error MZ_PARTS=3 UTF8_TEST=/nowhere
 
 names=()

@@ -2,8 +2,9 @@
 # Debian's packages that a test needs; to be sourced. Nothing is installed without being named, and only where MZ_INSTALL=yes
 # says so: tests/run.sh sets it unless it is set already.
 
-# where Debian's package puts the published file, unless another place is named
+# where Debian's package puts the published files, unless another place is named
 export MZ_UNICODE_DATA="${MZ_UNICODE_DATA:-/usr/share/unicode/UnicodeData.txt}"
+export MZ_NORMALIZATION_TEST="${MZ_NORMALIZATION_TEST:-/usr/share/unicode/NormalizationTest.txt.bz2}"
 
 # need_packages WHAT PACKAGE..: WHAT is missing, and these packages have it.
 need_packages() {
@@ -21,6 +22,11 @@ need_packages() {
 # The published UnicodeData.txt is there.
 need_unicode_data() {
     [ -f "$MZ_UNICODE_DATA" ] || need_packages "$MZ_UNICODE_DATA" unicode-data && [ -f "$MZ_UNICODE_DATA" ]
+}
+
+# The published NormalizationTest.txt is there.
+need_normalization_test() {
+    [ -f "$MZ_NORMALIZATION_TEST" ] || need_packages "$MZ_NORMALIZATION_TEST" unicode-data && [ -f "$MZ_NORMALIZATION_TEST" ]
 }
 
 # Whether clang is here with the runtime that a fuzzer is linked with; what it says otherwise is left in build/fuzzer.log.

@@ -14,6 +14,7 @@ fail() {
 # shellcheck source=tests/packages.sh
 . tests/packages.sh
 need_unicode_data || fail 'no UnicodeData.txt'
+need_normalization_test || fail 'no NormalizationTest.txt'
 need_fuzzer || fail 'no clang that can build a fuzzer'
 need_pandas || fail 'no Python with pandas'
 need_ensurepip || fail 'no Python that can install pip'

@@ -91,6 +91,17 @@ pub fn emptied(line: &[u8]) -> Option<Vec<u8>> {
     Some(fields.join(&b';'))
 }
 
+/// The line without a titlecase: with fields 12 and 14 empty.
+pub fn untitled(line: &[u8]) -> Vec<u8> {
+    let mut fields = fields_of(line);
+    for number in [12, 14] {
+        if let Some(field) = fields.get_mut(number) {
+            *field = b"";
+        }
+    }
+    fields.join(&b';')
+}
+
 /// A line: published or made, and changed in up to three places.
 pub fn line(random: &mut Random, published: &Published) -> Vec<u8> {
     let mut line = if random.one_in(3) { made(random) } else { published.pick(random) };

@@ -4,9 +4,9 @@
 //! and the inputs in hex. Exit status 2 and a message on standard error if the comparison can't be made: a file or a setting is
 //! at fault, or a part would run no case. A read or write outside a lent slice ends the process by SIGSEGV (see `pages`).
 //!
-//! Variables: MZ_SEED and MZ_CASES (the random parts), MZ_UNICODE_DATA and MZ_NFKD (files of part 2), UTF8_TEST (the published
-//! stress test, if it is at hand), MZ_SHORT=yes (part 2 without the scalar code points and NFKD, fewer cases in 3, 4 and 6 to 9),
-//! MZ_PARTS (the numbers of the parts to run, all without it).
+//! Variables: MZ_SEED and MZ_CASES (the random parts), MZ_UNICODE_DATA, MZ_NFKD and MZ_NORMALIZATION (files of part 2), UTF8_TEST
+//! (the published stress test, if it is at hand), MZ_SHORT=yes (part 2 without the scalar code points and NFKD, fewer cases in
+//! 3, 4 and 6 to 9), MZ_PARTS (the numbers of the parts to run, all without it).
 
 mod abi;
 mod both;
@@ -38,6 +38,7 @@ mod matching;
 mod pages;
 mod preparing;
 mod published;
+mod published_normalization;
 mod published_titlecases;
 mod random;
 mod record_lists;

@@ -3,9 +3,10 @@
 use crate::both::Table;
 use crate::building::Building;
 use crate::hex::hex;
-use crate::published_titlecases;
 use crate::settings::Settings;
 use crate::stop::Stop;
+use crate::{published_normalization, published_titlecases};
+use second::hangul::is_syllable;
 use second::unicode_data::State;
 
 /// What edition 15.0.0 of the file holds; tests/second.sh checks its SHA-256.
@@ -15,6 +16,9 @@ const POOL: usize = 8_663;
 
 /// Every scalar code point: 110000 hex but for 800 hex surrogates.
 const SCALARS: u64 = 1_112_064;
+
+/// Every Hangul syllable, AC00 to D7A3 hex.
+const SYLLABLES: usize = 11_172;
 
 /// The lines of a file, each without its line end. A last line without one counts unless it is empty.
 pub fn lines_of(octets: &[u8]) -> Vec<&[u8]> {
@@ -41,12 +45,11 @@ pub fn read_unicode_data(settings: &Settings) -> Result<Vec<u8>, Stop> {
 pub fn run(settings: &Settings) -> Result<u64, Stop> {
     let octets = read_unicode_data(settings)?;
     let lines = lines_of(&octets);
-    let nfkd = if settings.short { Vec::new() } else { read_nfkd(settings)? };
+    // Before anything takes long: a file that is missing is told at once.
+    let files = if settings.short { None } else { Some((read_nfkd(settings)?, published_normalization::read(settings)?)) };
     let table = build(&lines)?;
     let built_from = lines.len() as u64 + published_titlecases::run(&lines, &table)?;
-    if settings.short {
-        return Ok(built_from);
-    }
+    let Some((nfkd, normalization)) = files else { return Ok(built_from) };
     one_by_one(&table)?;
     in_long_texts(&table)?;
     for (scalar, key) in &nfkd {
@@ -55,12 +58,21 @@ pub fn run(settings: &Settings) -> Result<u64, Stop> {
     table.check_unchanged()?;
     let nfkd = nfkd.len() as u64;
     println!("  UnicodeData.txt: {} lines, {ENTRIES} entries, {POOL} pool numbers, {SCALARS} scalar code points", lines.len());
-    println!("  NFKD of the titlecase by Python: {nfkd} code points");
-    Ok(built_from + SCALARS + nfkd)
+    println!("  NFKD of the titlecase by Python: {nfkd} code points, all {SYLLABLES} Hangul syllables among them");
+    Ok(built_from + SCALARS + nfkd + published_normalization::run(&lines, &normalization)?)
+}
+
+/// The table of the published lines.
+pub fn build(lines: &[&[u8]]) -> Result<Table, String> {
+    let table = build_any(lines)?;
+    match (table.entries.len() / 4, table.pool.len()) {
+        (ENTRIES, POOL) => Ok(table),
+        (entries, pool) => Err(format!("{} lines gave {entries} entries and {pool} pool numbers", lines.len())),
+    }
 }
 
 /// Every line is accepted by both builders, and the table by both checks.
-pub fn build(lines: &[&[u8]]) -> Result<Table, String> {
+pub fn build_any(lines: &[&[u8]]) -> Result<Table, String> {
     let mut building = Building::new(16_384 * 4, 65_536);
     let mut state = State::default();
     for line in lines {
@@ -72,9 +84,6 @@ pub fn build(lines: &[&[u8]]) -> Result<Table, String> {
     }
     building.compare_slices()?;
     let (entries_used, pool_used) = (state.entries_used as usize, state.pool_used as usize);
-    if (entries_used, pool_used) != (ENTRIES, POOL) {
-        return Err(format!("{} lines gave {entries_used} entries and {pool_used} pool numbers", lines.len()));
-    }
     let table = Table::new(building.entries[..4 * entries_used].to_vec(), building.pool[..pool_used].to_vec())?;
     match table.is_accepted() {
         true => Ok(table),
@@ -82,7 +91,7 @@ pub fn build(lines: &[&[u8]]) -> Result<Table, String> {
     }
 }
 
-fn scalars() -> impl Iterator<Item = char> {
+pub fn scalars() -> impl Iterator<Item = char> {
     '\0'..=char::MAX
 }
 
@@ -117,12 +126,19 @@ fn in_long_texts(table: &Table) -> Result<(), String> {
     Ok(())
 }
 
+/// A file that a script of tests/second has written, and what makes an error of a fault in it.
+pub fn read_made(what: &str, path: &str) -> Result<(String, impl Fn(String) -> Stop), Stop> {
+    let start = format!("the {what} file {path:?}, which tests/second.sh makes,");
+    let fault = move |what: String| Stop::Error(format!("{start} {what}"));
+    let octets = std::fs::read(path).map_err(|error| fault(format!("can't be read: {error}")))?;
+    let text = String::from_utf8(octets).map_err(|_| fault("isn't text".to_string()))?;
+    Ok((text, fault))
+}
+
 /// The key of every code point that tests/second/nfkd.py has written: a line each, its number and its octets, and last how many
 /// there were.
 fn read_nfkd(settings: &Settings) -> Result<Vec<(char, Vec<u8>)>, Stop> {
-    let fault = |what: String| Stop::Error(format!("the NFKD file {:?}, which tests/second.sh makes, {what}", settings.nfkd));
-    let octets = std::fs::read(&settings.nfkd).map_err(|error| fault(format!("can't be read: {error}")))?;
-    let text = String::from_utf8(octets).map_err(|_| fault("isn't text".to_string()))?;
+    let (text, fault) = read_made("NFKD", &settings.nfkd)?;
     let mut keys = Vec::new();
     let mut total: Option<usize> = None;
     for line in text.lines() {
@@ -132,9 +148,10 @@ fn read_nfkd(settings: &Settings) -> Result<Vec<(char, Vec<u8>)>, Stop> {
             None => return Err(fault(format!("has the line {line:?}"))),
         }
     }
+    let syllables = keys.iter().filter(|(scalar, _)| is_syllable(*scalar as u32)).count();
     match total {
-        Some(total) if total == keys.len() && total > 0 => Ok(keys),
-        _ => Err(fault(format!("has {} code points and says {total:?}", keys.len()))),
+        Some(total) if total == keys.len() && syllables == SYLLABLES => Ok(keys),
+        _ => Err(fault(format!("has {} code points, {syllables} of them Hangul syllables, and says {total:?}", keys.len()))),
     }
 }
 
@@ -153,7 +170,7 @@ fn compare_one(table: &Table, scalar: char, key: &[u8]) -> Result<(), String> {
 }
 
 /// Octets written as pairs of hex digits with nothing between.
-fn read_hex(digits: &str) -> Option<Vec<u8>> {
+pub fn read_hex(digits: &str) -> Option<Vec<u8>> {
     let pairs = digits.as_bytes().chunks(2);
     pairs.map(|pair| u8::from_str_radix(std::str::from_utf8(pair).ok()?, 16).ok()).collect()
 }
