@@ -25,16 +25,15 @@ uint32_t draw(uint32_t bound) {
 }
 
 size_t spell(const struct table *table, const char *name, enum spelling spelling, uint8_t *octets, size_t most) {
-    // Over the empty table a code point unfolds into itself.
-    static const struct table empty;
-    const struct table *parts = spelling == DECOMPOSED || spelling == DECOMPOSED_CAPITALS ? table : &empty;
-    const struct table *titles = spelling == CAPITALS || spelling == DECOMPOSED_CAPITALS ? table : &empty;
-    uint8_t *at = octets;
+    bool is_decomposed = spelling == DECOMPOSED || spelling == DECOMPOSED_CAPITALS;
+    bool has_capitals = spelling == CAPITALS || spelling == DECOMPOSED_CAPITALS;
+    uint8_t *at = octets, *end = octets + most;
     size_t length = strlen(name);
     for (size_t i = 0; i < length && at;) {
         uint32_t c;
         i += straight_decode((const uint8_t *)name + i, length - i, &c);
-        at = straight_unfold(parts, straight_title(titles, c), at, octets + most);
+        if (has_capitals) c = straight_title(table, c);
+        at = is_decomposed ? straight_unfold(table, c, at, end) : straight_write(c, at, end);
     }
     return at ? (size_t)(at - octets) : 0;
 }

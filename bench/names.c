@@ -166,7 +166,7 @@ static void print_table_size(const char *path) {
            inputs.table.pool_length);
 }
 
-// ICU and the like prepare by tables of their own, of another edition perhaps, and by rules that differ for Hangul and for marks.
+// ICU and the like prepare by tables of their own, of another edition perhaps, and by a rule that puts marks in order.
 static void print_agreement(void) {
     printf("Keys that are Mundeziwa's, of %d Latin names and of %d names of many scripts:\n", NAMES, NAMES);
     for (size_t p = 1; p < PEERS; p++)

@@ -1,5 +1,5 @@
 // ICU as its users would call it from C: each character decoded and titlecased into UTF-16, NFKD over that, and the result turned
-// back into UTF-8. Nothing is allocated here. NFKD orders marks and takes Hangul apart, which RFC 5051 does not.
+// back into UTF-8. Nothing is allocated here. NFKD also orders marks, which RFC 5051 does not.
 #include "peers.h"
 #include <unicode/uchar.h>
 #include <unicode/unorm2.h>

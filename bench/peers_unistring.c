@@ -1,5 +1,5 @@
 // libunistring: each character decoded and titlecased into UTF-32, NFKD over that, and the result turned back into UTF-8, all in
-// buffers lent to it. NFKD orders marks and takes Hangul apart, which RFC 5051 does not.
+// buffers lent to it. NFKD also orders marks, which RFC 5051 does not.
 #include "peers.h"
 #include <stdlib.h>
 #include <unicase.h>

@@ -1,5 +1,5 @@
 // utf8proc by the calls that allocate nothing: the titlecase is its custom mapping of each character, then comes NFKD, and each
-// code point is encoded into the key buffer. NFKD orders marks and takes Hangul apart, which RFC 5051 does not.
+// code point is encoded into the key buffer. NFKD also orders marks, which RFC 5051 does not.
 #include "peers.h"
 #include <utf8proc.h>
 

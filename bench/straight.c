@@ -1,6 +1,6 @@
 // i;unicode-casemap written by hand in C, without proof. One walk: decode, look the titlecase up, unfold what it decomposes into,
-// encode; both lookups are binary searches in the lent table. A buffer that is too short is noticed before octets further on that
-// are no UTF-8; the library looks at the whole text first.
+// encode; both lookups are binary searches in the lent table, but the parts of a Hangul syllable are counted out. A buffer that
+// is too short is noticed before octets further on that are no UTF-8; the library looks at the whole text first.
 #include "straight.h"
 
 #define LEVELS_MOST 8
@@ -63,14 +63,32 @@ uint32_t straight_title(const struct table *table, uint32_t c) {
     return entry ? entry[1] : c;
 }
 
-uint8_t *straight_unfold(const struct table *table, uint32_t c, uint8_t *at, uint8_t *end) {
-    const uint32_t *entry = find_entry(table, c);
-    if (!entry || entry[3] == 0) {
-        if ((size_t)(end - at) < encoded_width(c)) return NULL;
-        return at + encode(c, at);
+// The parts of a code point: their number, and where they stand. Those of a syllable are made in `own`.
+static inline size_t find_parts(const struct table *table, uint32_t c, uint32_t own[3], const uint32_t **parts) {
+    if (is_syllable(c)) {
+        uint32_t s = c - S_BASE;
+        own[0] = L_BASE + s / N_COUNT;
+        own[1] = V_BASE + s % N_COUNT / T_COUNT;
+        own[2] = T_BASE + s % T_COUNT;
+        *parts = own;
+        return s % T_COUNT == 0 ? 2 : 3;
     }
-    const uint32_t *parts = table->pool + entry[2];
-    for (uint32_t i = 0; i < entry[3] && at; i++) at = straight_unfold(table, parts[i], at, end);
+    const uint32_t *entry = find_entry(table, c);
+    if (!entry) return 0;
+    *parts = table->pool + entry[2];
+    return entry[3];
+}
+
+uint8_t *straight_write(uint32_t c, uint8_t *at, uint8_t *end) {
+    return (size_t)(end - at) < encoded_width(c) ? NULL : at + encode(c, at);
+}
+
+uint8_t *straight_unfold(const struct table *table, uint32_t c, uint8_t *at, uint8_t *end) {
+    uint32_t own[3];
+    const uint32_t *parts;
+    size_t count = find_parts(table, c, own, &parts);
+    if (count == 0) return straight_write(c, at, end);
+    for (size_t i = 0; i < count && at; i++) at = straight_unfold(table, parts[i], at, end);
     return at;
 }
 
@@ -95,12 +113,30 @@ static bool equal(const struct table *table, struct text first, struct text seco
 // Whether a code point unfolds within the levels left; its full decomposition is taken from the code points left. Each leaf takes
 // one, so that no table makes this long.
 static bool unfolds(const struct table *table, uint32_t c, int levels, int *left) {
-    const uint32_t *entry = find_entry(table, c);
-    if (!entry || entry[3] == 0) return --*left >= 0;
+    uint32_t own[3];
+    const uint32_t *parts;
+    size_t count = find_parts(table, c, own, &parts);
+    if (count == 0) return --*left >= 0;
     if (levels == 0) return false;
-    for (uint32_t i = 0; i < entry[3]; i++)
-        if (!unfolds(table, table->pool[entry[2] + i], levels - 1, left)) return false;
+    for (size_t i = 0; i < count; i++)
+        if (!unfolds(table, parts[i], levels - 1, left)) return false;
     return true;
+}
+
+// Whether every syllable unfolds: its parts have a level less, and the largest syllable is made of the largest part of each row.
+static bool syllables_unfold(const struct table *table) {
+    static const uint32_t rows[3][2] = {{L_BASE, L_COUNT}, {V_BASE, V_COUNT}, {T_BASE + 1, T_COUNT - 1}};
+    int sum = 0;
+    for (int row = 0; row < 3; row++) {
+        int most = 0;
+        for (uint32_t i = 0; i < rows[row][1]; i++) {
+            int left = PARTS_MOST;
+            if (!unfolds(table, rows[row][0] + i, LEVELS_MOST - 1, &left)) return false;
+            if (PARTS_MOST - left > most) most = PARTS_MOST - left;
+        }
+        sum += most;
+    }
+    return sum <= PARTS_MOST;
 }
 
 // Checks 3 to 6 of document 01, each over the whole table.
@@ -110,6 +146,7 @@ static bool has_form(const struct table *table) {
     for (size_t i = 0; i < count; i++) {
         const uint32_t *entry = table->entries + 4 * i;
         if (!is_scalar(entry[0]) || !is_scalar(entry[1]) || (i > 0 && entry[0] <= entry[-4])) return false;
+        if (is_syllable(entry[0])) return false;
     }
     for (size_t i = 0; i < count; i++) {
         const uint32_t *entry = table->entries + 4 * i;
@@ -128,7 +165,7 @@ static bool check(const struct table *table) {
         int left = PARTS_MOST;
         if (!unfolds(table, table->entries[i], LEVELS_MOST, &left)) return false;
     }
-    return true;
+    return syllables_unfold(table);
 }
 
 const struct peer straight_peer = {

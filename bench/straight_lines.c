@@ -77,7 +77,7 @@ struct state {
 // Appends the mapping of one line, if it has one, or answers false.
 static bool add_mapping(struct state *state, struct table_room room, uint32_t c, uint32_t title, const uint32_t *parts,
                         size_t count) {
-    if (!is_scalar(c) || !is_scalar(title)) return false;
+    if (!is_scalar(c) || !is_scalar(title) || is_syllable(c)) return false;
     for (size_t i = 0; i < count; i++)
         if (!is_scalar(parts[i])) return false;
     if (c < state->next || room.entries_length - state->entries_used < 4 || room.pool_length - state->pool_used < count)
