@@ -45,16 +45,18 @@ static void check_interface(void) {
 }
 
 static void check_tables(void) {
-    static const uint32_t itself[] = {0x41, 0x41, 0, 1}, part[] = {0x41};
+    static const uint32_t itself[] = {0x41, 0x41, 0, 1}, part[] = {0x41}, syllable[] = {0xAC00, 0x41, 0, 0};
     uint64_t answer[3];
     mz_check_table(TABLE, answer);
     EXPECT("mz_check_table of T", answer, 0, 0, 0);
     mz_check_table(itself, COUNT(itself), part, COUNT(part), answer);
     EXPECT("mz_check_table of a letter that decomposes into itself", answer, MZ_REFUSED_LEVEL, 0, 0);
+    mz_check_table(syllable, COUNT(syllable), part, 0, answer);
+    EXPECT("mz_check_table of an entry for a Hangul syllable", answer, MZ_REFUSED_CODE_POINT, 0, 0);
 }
 
 static void prepare_texts(void) {
-    uint8_t key[4] = {1, 2, 3, 4};
+    uint8_t key[4] = {1, 2, 3, 4}, jamo[9];
     uint64_t answer[7];
     mz_prepare(MZ_UNICODE_CASEMAP, TEXT("\xC3\xA9"), TABLE, key, sizeof key, answer);
     EXPECT("mz_prepare", answer, 0, 0, 0, 1, 4, 3, 1);
@@ -64,6 +66,9 @@ static void prepare_texts(void) {
     expect_octets("the buffer after a broken text", key, "\x45\xCC\x81\x04", 4);
     mz_prepare(MZ_UNICODE_CASEMAP, TEXT("\xC3\xA9"), TABLE, key, 2, answer);
     EXPECT("mz_prepare with a short buffer", answer, MZ_REFUSED_KEY_ROOM, 1, 3, 0, 0, 0, 0);
+    mz_prepare(MZ_UNICODE_CASEMAP, TEXT("\xEA\xB0\x81"), TABLE, jamo, sizeof jamo, answer);
+    EXPECT("mz_prepare of a Hangul syllable", answer, 0, 0, 0, 1, 5, 9, 1);
+    expect_octets("a Hangul syllable's key", jamo, "\xE1\x84\x80\xE1\x85\xA1\xE1\x86\xA8", 9);
 }
 
 static void compare_texts(void) {

@@ -120,6 +120,15 @@ CASES = [
     ("a letter that is a part of itself", line("0041", "0041"), PAIR, refused(7)),
     ("two letters that are parts of each other", line("0041", "0042") + line("0042", "0041"), PAIR, refused(7)),
     ("a table at fault, and no input", line("0041", "0041"), "", refused(7)),
+    # Hangul syllables, which decompose whatever the table says
+    ("a syllable and its jamo", "", "각\t\u1100\u1161\u11A8\n각\t가\u11A8\n가\t각\n", answers("equal", "equal", "less")),
+    ("the range of syllables", line("AC00") + line("D7A3"), "힣\t\u1112\u1175\u11C2\n", answers("equal")),
+    ("a mapping for a syllable", line("AC00", "1100 1161"), PAIR, refused(25)),
+    ("a titlecase for a syllable", line("D7A3", uppercase="0041"), PAIR, refused(25)),
+    ("a mapping next to the syllables", line("D7A4", "D7A3"), "\uD7A4\t힣\n", answers("equal")),
+    ("a syllable of 32 code points", line("1100", " ".join(["0041"] * 30)), "가\t" + "A" * 30 + "\u1161\n", answers("equal")),
+    ("a syllable of 33 code points", line("1100", " ".join(["0041"] * 31)), PAIR, refused(7)),
+    ("as many syllables as a name can have", "", "각" * 1365 + "\t" + "각" * 1364 + "갂\n", answers("less")),
     # lines of the input, and where they end
     ("no input", EXAMPLE, "", answers()),
     ("a last line with its end", EXAMPLE, "a\tA\nE\té\n", answers("equal", "less")),
