@@ -7,6 +7,7 @@ use native.Mathlib.Nat.{mul-le-mul}
 use native.Mathlib.Numerals.{sub-one}
 use native.Mathlib.Omega.{arith}
 use mathlib.Core.Bool.{true, false}
+use mathlib.Core.Option.{none}
 use mathlib.Core.List.{List, [], _∷_, append-nil}
 use lib.Dec.{leb}
 use lib.ListN.{length, getD, take, length-append}
@@ -16,8 +17,8 @@ use Rattle.terms.proofs.Lists.{all-at, each-take-more, length-each-take}
 use Rattle.terms.proofs.Tests.{both}
 use Rattle.hangul.specs.Hangul.{syllable, syllableParts}
 use Rattle.table.specs.Mapping.{Mapping}
-use Rattle.table.specs.Table.{Table, mappingOf}
-use Rattle.table.proofs.Form.{partsOf-syllable}
+use Rattle.table.specs.Table.{Table, formRefusal, entryParts, mappingOf}
+use Rattle.table.proofs.Form.{partsOf-syllable, partsOf-other, partsOf-entry}
 use Rattle.utf8.specs.Utf8.{encode, encodes}
 use Rattle.utf8.specs.Promises.{Written}
 use Rattle.decompose.specs.Levels.{within, full, asks}
@@ -68,6 +69,16 @@ filled-whole m n c e slice k after w = record {
 -- parts were found
 pub parts-some : {m : Mapping} {c : ℕ} {ps : List ℕ} → ps ≡ m .parts c → (length ps ≡ 0 → ⊥) → Split m c ps
 parts-some e h = record { parts = e; some = omega arith }
+
+-- the entries of a table say these parts of a code point
+pub entry-split : (t : Table) → formRefusal t ≡ none → {c : ℕ} {ps : List ℕ} → ps ≡ entryParts t c → (length ps ≡ 0 → ⊥)
+    → Split (mappingOf t) c ps
+entry-split t form {c} e h = parts-some (e ∙ sym (partsOf-entry t form c (λ none. h (ap length (e ∙ none))))) h
+
+-- they say none, and it is no syllable
+pub entry-none : (t : Table) (c : ℕ) (ps : List ℕ) → ps ≡ entryParts t c → length ps ≡ 0 → syllable c ≡ false
+    → mappingOf t .parts c ≡ []
+entry-none t c ps e h other = parts-none (mappingOf t) c ps (e ∙ sym (partsOf-other t c other)) h
 
 -- a syllable has its jamo, over a table
 pub syllable-split : (t : Table) {c : ℕ} {ps : List ℕ} → syllable c ≡ true → ps ≡ syllableParts c → Split (mappingOf t) c ps

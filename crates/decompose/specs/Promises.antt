@@ -7,7 +7,7 @@ use mathlib.Core.Option.{Option, none, some}
 use mathlib.Core.List.{List}
 use lib.Dec.{leb}
 use lib.ListN.{length}
-use Rattle.terms.specs.Lists.{when, over}
+use Rattle.terms.specs.Lists.{all, each, when, over}
 use Rattle.terms.specs.Refusals.{levelsMost, fullMost}
 use Rattle.table.specs.Mapping.{Mapping}
 use Rattle.utf8.specs.Utf8.{encodes}
@@ -20,6 +20,11 @@ use Rattle.decompose.specs.declared.Unfolded.{Unfolded}
 -- how many code points a code point unfolds into, if within n levels and into at most `room`
 abbrev pub measured : Mapping → ℕ → ℕ → ℕ → Option ℕ
 measured m n room c = when (within m n c && leb (length (full m n c)) room) (length (full m n c))
+
+-- how many code points parts unfold into, if each is within n levels and they are together at most `room`
+abbrev pub measuredParts : Mapping → ℕ → ℕ → List ℕ → Option ℕ
+measuredParts m n room ps =
+    when (all (λ p. within m n p) ps && leb (length (each (λ p. full m n p) ps)) room) (length (each (λ p. full m n p) ps))
 
 -- the larger of two measurements, if both fit
 abbrev pub larger : Option ℕ → Option ℕ → Option ℕ
@@ -68,6 +73,13 @@ FullCounted m n c r = Counted (full m n c) (asks m n c) r
 
 abbrev pub FullFilled : Mapping → ℕ → ℕ → List ℕ → Unfolded → List ℕ → Type 0
 FullFilled m n c slice r after = Filled (full m n c) (asks m n c) slice r after
+
+-- and was, with the ask for the titlecase that led to it
+abbrev pub TitleCounted : Mapping → ℕ → Unfolded → Type 0
+TitleCounted m x r = Counted (full m levelsMost x) (suc (asks m levelsMost x)) r
+
+abbrev pub TitleFilled : Mapping → ℕ → List ℕ → Unfolded → List ℕ → Type 0
+TitleFilled m x slice r after = Filled (full m levelsMost x) (suc (asks m levelsMost x)) slice r after
 
 -- the expansion of a code point by the published steps was counted, and written
 abbrev pub ExpansionCounted : Mapping → ℕ → Unfolded → Type 0

@@ -5,18 +5,17 @@ use table::layout;
 use terms::Check;
 use terms::CodePoint;
 ghost use mathlib.Core.Path.{_≡_};
-ghost use mathlib.Core.Bool.{false, not};
+ghost use mathlib.Core.Bool.{not};
 ghost use mathlib.Core.List.{[]};
 ghost use mathlib.Core.Option.{none};
 ghost use Prim.Native.Nat.{max, _+_, _≤_};
 ghost use Rattle.terms.specs.Refusals.{answer, checkOutcome};
 ghost use Rattle.table.specs.Table.{table, refusedAt, formRefusal, mappingOf};
-ghost use Rattle.hangul.specs.Hangul.{sBase, syllable};
 ghost use Rattle.decompose.specs.TableCheck.{faultySyllable, levelFault};
-ghost use Rattle.decompose.specs.Promises.{jamoLevels, measured, measuredSize, largest, Split};
+ghost use Rattle.decompose.specs.Promises.{measuredParts, measuredSize, largest};
 
-// The most levels of a jamo in an accepted table: a syllable has one more.
-const JAMO_LEVELS: usize = terms::LEVELS_MOST - 1;
+// The most levels of a part in an accepted table: what it is a part of has one more.
+const PART_LEVELS: usize = terms::LEVELS_MOST - 1;
 
 // Whether 7 refuses a table of the form.
 pub fn check_levels(entries: &[u32], pool: &[u32]) -> Check
@@ -29,14 +28,7 @@ pub fn check_levels(entries: &[u32], pool: &[u32]) -> Check
         let parts = table::parts_at(entries, pool, i);
         // A code point with no parts unfolds into itself.
         if parts.len() != 0 {
-            let measurement = measure(
-                terms::LEVELS_MOST,
-                layout::code_at(entries, i),
-                parts,
-                terms::FULL_MOST,
-                entries,
-                pool,
-            );
+            let measurement = measure(PART_LEVELS, parts, terms::FULL_MOST, entries, pool);
             if let Measurement::TooMuch = measurement {
                 return table::refused_at(terms::REFUSED_LEVEL, i);
             }
@@ -86,14 +78,15 @@ fn syllables_fit(entries: &[u32], pool: &[u32]) -> bool
 // The largest measurement of so many jamo from one on, if each fits.
 fn measure_largest(from: u32, count: u32, room: usize, entries: &[u32], pool: &[u32]) -> Measurement
     requires { ⌜ formRefusal (table (now entries) (now pool)) ≡ none ⌝ }
-    requires { ⌜ from + count ≤ sBase ⌝ }
+    requires { ⌜ from + count ≤ 0x10FFFF ⌝ }
     ensures { λ r. ⌜ measuredSize r ≡ largest
         (mappingOf (table (now (entries .entry)) (now (pool .entry)))) room from count ⌝ }
 {
     let mut most = 0;
     let mut i = 0;
     while i < count {
-        let measurement = measure_jamo(CodePoint(from + i), room, entries, pool);
+        let jamo = [from + i];
+        let measurement = measure(PART_LEVELS, &jamo, room, entries, pool);
         match measurement {
             Measurement::Fits(n) => {
                 most = larger_of(most, n);
@@ -107,23 +100,6 @@ fn measure_largest(from: u32, count: u32, room: usize, entries: &[u32], pool: &[
     Measurement::Fits(most)
 }
 
-// How many code points a jamo unfolds into, if it leaves a level for a syllable and they are at most `room`.
-fn measure_jamo(c: CodePoint, room: usize, entries: &[u32], pool: &[u32]) -> Measurement
-    requires { ⌜ formRefusal (table (now entries) (now pool)) ≡ none ⌝ }
-    requires { ⌜ syllable (c .0) ≡ false ⌝ }
-    ensures { λ r. ⌜ measuredSize r ≡ measured
-        (mappingOf (table (now (entries .entry)) (now (pool .entry)))) jamoLevels room (c .0) ⌝ }
-{
-    let parts = table::entry_parts(entries, pool, c);
-    if parts.len() != 0 {
-        return measure(JAMO_LEVELS, c, parts, room, entries, pool);
-    }
-    if room == 0 {
-        return Measurement::TooMuch;
-    }
-    Measurement::Fits(1)
-}
-
 // The larger of two numbers.
 fn larger_of(a: usize, b: usize) -> usize
     ensures { λ r. ⌜ r ≡ max a b ⌝ }
@@ -134,23 +110,18 @@ fn larger_of(a: usize, b: usize) -> usize
     a
 }
 
-// How many code points a code point that has these parts unfolds into, if within the levels left and into at most `room`.
+// How many code points these parts unfold into, if each is within the levels left and they are at most `room`.
 fn measure(
     levels_left: usize,
-    c: CodePoint,
     parts: &[u32],
     room: usize,
     entries: &[u32],
     pool: &[u32],
 ) -> Measurement
     requires { ⌜ formRefusal (table (now entries) (now pool)) ≡ none ⌝ }
-    requires { ⌜ Split (mappingOf (table (now entries) (now pool))) (c .0) (now parts) ⌝ }
-    ensures { λ r. ⌜ measuredSize r ≡ measured
-        (mappingOf (table (now (entries .entry)) (now (pool .entry)))) «levels_left» room (c .0) ⌝ }
+    ensures { λ r. ⌜ measuredSize r ≡ measuredParts
+        (mappingOf (table (now (entries .entry)) (now (pool .entry)))) «levels_left» room (now (parts .entry)) ⌝ }
 {
-    if levels_left == 0 {
-        return Measurement::TooMuch;
-    }
     let mut total = 0;
     let mut i = 0;
     while i < parts.len() {
@@ -164,7 +135,10 @@ fn measure(
             }
             total += 1;
         } else {
-            let measurement = measure(levels_left - 1, part, inner, room - total, entries, pool);
+            if levels_left == 0 {
+                return Measurement::TooMuch;
+            }
+            let measurement = measure(levels_left - 1, inner, room - total, entries, pool);
             match measurement {
                 Measurement::Fits(n) => {
                     total += n;

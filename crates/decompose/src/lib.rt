@@ -3,7 +3,7 @@
 //
 // `check_table` takes any two slices. Its work is bounded on any table: an entry's code point is unfolded until it has taken 32
 // code points or 8 levels, and every code point that is looked up either takes one of the 32 or is split into ones that do;
-// so on each of the levels 0 to 8 at most 33 are looked up, some 300 in all.
+// so on each of the levels 0 to 8 at most 33 are looked up, some 300 in all. So are 67 jamo, which decide for all syllables.
 // The functions on one expansion ask for an accepted table.
 mod depth;
 
@@ -17,15 +17,16 @@ ghost use mathlib.Core.Option.{none, some};
 ghost use Prim.Native.Nat.{_≤_};
 ghost use lib.ListN.{length};
 ghost use Rattle.terms.specs.CodePoints.{scalar};
-ghost use Rattle.terms.specs.Refusals.{checkOutcome};
+ghost use Rattle.terms.specs.Refusals.{levelsMost, checkOutcome};
 ghost use Rattle.utf8.specs.Utf8.{encodes};
-ghost use Rattle.hangul.specs.Promises.{jamoOf};
+ghost use Rattle.hangul.specs.Hangul.{syllable};
 ghost use Rattle.table.specs.Layout.{titleAt};
-ghost use Rattle.table.specs.Table.{table, formRefusal, entryOf, partsOf, mappingOf};
+ghost use Rattle.table.specs.Table.{table, formRefusal, entryOf, entryParts, mappingOf};
 ghost use Rattle.decompose.specs.Levels.{full};
 ghost use Rattle.decompose.specs.Steps.{expanded};
 ghost use Rattle.decompose.specs.TableCheck.{tableRefusal, tableAnswer};
-ghost use Rattle.decompose.specs.Promises.{Split, Bounded, FullCounted, FullFilled, ExpansionCounted, ExpansionFilled};
+ghost use Rattle.decompose.specs.Promises.{Split, Bounded, FullCounted, FullFilled, TitleCounted, TitleFilled};
+ghost use Rattle.decompose.specs.Promises.{ExpansionCounted, ExpansionFilled};
 
 // How many code points a code point unfolds into.
 pub enum Measurement {
@@ -57,12 +58,21 @@ pub fn size_expansion(c: CodePoint, entries: &[u32], pool: &[u32]) -> Unfolded
     ensures { λ r. ⌜ ExpansionCounted (mappingOf (table (now (entries .entry)) (now (pool .entry)))) (c .0) r ⌝ }
 {
     let Place::At(i) = table::find_entry(entries, c) else {
-        return size_unlisted(c, entries, pool);
+        if hangul::is_syllable(c) {
+            return size_syllable(c, entries, pool);
+        }
+        // Any other code point without an entry maps to itself: the two asks are known without a second search.
+        return Unfolded {
+            octets: utf8::octet_count(c),
+            asks: 2,
+        };
     };
     let title = layout::title_at(entries, i);
-    let jamo = hangul::jamo_of(title);
-    let parts = title_parts(c, i, entries, pool, &jamo);
+    let parts = title_parts(c, i, entries, pool);
     if parts.len() == 0 {
+        if hangul::is_syllable(title) {
+            return size_syllable(title, entries, pool);
+        }
         let octets = utf8::octet_count(title);
         return Unfolded { octets, asks: 2 };
     }
@@ -82,12 +92,18 @@ pub fn write_expansion(c: CodePoint, entries: &[u32], pool: &[u32], out: &mut [u
         (now (out .entry)) r (now (out .exit)) ⌝ }
 {
     let Place::At(i) = table::find_entry(entries, c) else {
-        return write_unlisted(c, entries, pool, out);
+        if hangul::is_syllable(c) {
+            return write_syllable(c, entries, pool, out);
+        }
+        let octets = utf8::write_character(c, out);
+        return Unfolded { octets, asks: 2 };
     };
     let title = layout::title_at(entries, i);
-    let jamo = hangul::jamo_of(title);
-    let parts = title_parts(c, i, entries, pool, &jamo);
+    let parts = title_parts(c, i, entries, pool);
     if parts.len() == 0 {
+        if hangul::is_syllable(title) {
+            return write_syllable(title, entries, pool, out);
+        }
         let octets = utf8::write_character(title, out);
         return Unfolded { octets, asks: 2 };
     }
@@ -98,19 +114,12 @@ pub fn write_expansion(c: CodePoint, entries: &[u32], pool: &[u32], out: &mut [u
     }
 }
 
-// The octets of the expansion of a code point that has no entry, and the lookups for it: it is its own titlecase.
-fn size_unlisted(c: CodePoint, entries: &[u32], pool: &[u32]) -> Unfolded
+// The octets of the expansion of a code point whose titlecase is this syllable, and the lookups for it.
+fn size_syllable(c: CodePoint, entries: &[u32], pool: &[u32]) -> Unfolded
     requires { ⌜ tableRefusal (table (now entries) (now pool)) ≡ none ⌝ }
-    requires { ⌜ entryOf (now entries) (c .0) ≡ none ⌝ }
-    ensures { λ r. ⌜ ExpansionCounted (mappingOf (table (now (entries .entry)) (now (pool .entry)))) (c .0) r ⌝ }
+    requires { ⌜ syllable (c .0) ≡ true ⌝ }
+    ensures { λ r. ⌜ TitleCounted (mappingOf (table (now (entries .entry)) (now (pool .entry)))) (c .0) r ⌝ }
 {
-    if !hangul::is_syllable(c) {
-        // It stays as it is: the two asks are known without a second search.
-        return Unfolded {
-            octets: utf8::octet_count(c),
-            asks: 2,
-        };
-    }
     let jamo = hangul::jamo_of(c);
     let parts = hangul::parts_among(c, &jamo);
     let unfolded = size_unfolded(terms::LEVELS_MOST, c, parts, entries, pool);
@@ -120,19 +129,15 @@ fn size_unlisted(c: CodePoint, entries: &[u32], pool: &[u32]) -> Unfolded
     }
 }
 
-// Writes the expansion of a code point that has no entry at the start of a slice that has room for it.
-fn write_unlisted(c: CodePoint, entries: &[u32], pool: &[u32], out: &mut [u8]) -> Unfolded
+// Writes that expansion at the start of a slice that has room for it. Called from two places, it is compiled apart, and what is
+// in front of it, the usual way of a letter, is inlined.
+fn write_syllable(c: CodePoint, entries: &[u32], pool: &[u32], out: &mut [u8]) -> Unfolded
     requires { ⌜ tableRefusal (table (now entries) (now pool)) ≡ none ⌝ }
-    requires { ⌜ entryOf (now entries) (c .0) ≡ none ⌝ }
-    requires { ⌜ scalar (c .0) ≡ true ⌝ }
-    requires { ⌜ length (expanded (mappingOf (table (now entries) (now pool))) (c .0)) ≤ length (now out) ⌝ }
-    ensures { λ r. ⌜ ExpansionFilled (mappingOf (table (now (entries .entry)) (now (pool .entry)))) (c .0)
+    requires { ⌜ syllable (c .0) ≡ true ⌝ }
+    requires { ⌜ length (encodes (full (mappingOf (table (now entries) (now pool))) levelsMost (c .0))) ≤ length (now out) ⌝ }
+    ensures { λ r. ⌜ TitleFilled (mappingOf (table (now (entries .entry)) (now (pool .entry)))) (c .0)
         (now (out .entry)) r (now (out .exit)) ⌝ }
 {
-    if !hangul::is_syllable(c) {
-        let octets = utf8::write_character(c, out);
-        return Unfolded { octets, asks: 2 };
-    }
     let jamo = hangul::jamo_of(c);
     let parts = hangul::parts_among(c, &jamo);
     let unfolded = write_unfolded(terms::LEVELS_MOST, c, parts, entries, pool, out);
@@ -142,24 +147,18 @@ fn write_unlisted(c: CodePoint, entries: &[u32], pool: &[u32], out: &mut [u8]) -
     }
 }
 
-// The decomposition of the titlecase of a code point's entry: what the entry itself says, if that is the code point.
-fn title_parts<'a>(
-    c: CodePoint,
-    i: usize,
-    entries: &[u32],
-    pool: &'a [u32],
-    jamo: &'a [u32],
-) -> &'a [u32]
+// The decomposition that the entries say of the titlecase of a code point's entry: what the entry itself says, if that is the
+// code point.
+fn title_parts<'a>(c: CodePoint, i: usize, entries: &[u32], pool: &'a [u32]) -> &'a [u32]
     requires { ⌜ formRefusal (table (now entries) (now pool)) ≡ none ⌝ }
     requires { ⌜ entryOf (now entries) (c .0) ≡ some i ⌝ }
-    requires { ⌜ now jamo ≡ jamoOf (titleAt (now entries) i) ⌝ }
-    ensures { λ r. ⌜ now r ≡ partsOf (table (now (entries .entry)) (now (pool .entry))) (titleAt (now (entries .entry)) i) ⌝ }
+    ensures { λ r. ⌜ now r ≡ entryParts (table (now (entries .entry)) (now (pool .entry))) (titleAt (now (entries .entry)) i) ⌝ }
 {
     let title = layout::title_at(entries, i);
     if title.0 == c.0 {
         return table::parts_at(entries, pool, i);
     }
-    table::parts_of(entries, pool, jamo, title)
+    table::entry_parts(entries, pool, title)
 }
 
 // The octets of the full decomposition of a code point that has these parts, and the asks of its unfolding.

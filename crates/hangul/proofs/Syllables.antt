@@ -46,6 +46,12 @@ pub syllable-within : (c : ℕ) → sBase ≤ c → c < sBase + sCount → sylla
 unfolding syllable
 syllable-within c l m = rw (le-leb sBase c l, lt-ltb c (sBase + sCount) m)
 
+-- it is scalar
+pub syllable-scalar : (c : ℕ) → syllable c ≡ true → scalar c ≡ true
+syllable-scalar c is =
+    let h = syllable-bounds c is in
+    rw (le-leb c 0x10FFFF (omega arith), lt-leb 0xD800 c (omega arith))
+
 -- ---- parts
 
 -- with no trailing consonant

@@ -248,7 +248,15 @@ module _ (t : Table) (form : formRefusal t ≡ none) where
   formed-unlisted c is =
       entryOf-none (t .entries) c (λ k l e. true≢false (sym is ∙ ap syllable (sym e) ∙ formed-code t form k l))
 
-  -- so it is its own titlecase
+  -- where the entries say parts, these are the code point's
+  pub partsOf-entry : (c : ℕ) → (entryParts t c ≡ [] → ⊥) → partsOf t c ≡ entryParts t c
+  partsOf-entry c said = go (syllable c) refl
+    where
+      go : (b : Bool) → syllable c ≡ b → cond b (syllableParts c) (entryParts t c) ≡ entryParts t c
+      go true is = absurd (said (entryParts-none t c (formed-unlisted c is)))
+      go false other = refl
+
+  -- a syllable is its own titlecase
   pub formed-title-syllable : (c : ℕ) → syllable c ≡ true → titleOf (t .entries) c ≡ c
   formed-title-syllable c is = titleOf-none (t .entries) c (formed-unlisted c is)
 

@@ -1,21 +1,18 @@
--- `decompose::size_expansion` meets its contract: a code point without an entry is left to `size_unlisted`; with one, its
--- expansion is the titlecase if that has no parts, for two asks; and else the titlecase unfolds, since every code point does
--- over an accepted table.
+-- `decompose::size_expansion` meets its contract: a code point without an entry is its own titlecase; a titlecase of which the
+-- entries say no parts is a syllable or stays as it is, for two asks; any other unfolds, since every code point does over an
+-- accepted table.
 -- Assumes nothing.
 use native.Mathlib.Omega.{arith}
 use mathlib.Core.Path.{_≡_, sym, ap, _∙_}
 use mathlib.Core.Option.{none, some}
-use lib.ListN.{length}
 use borrow.Author.Needs.{needs}
 use Rattle.terms.specs.Refusals.{levelsMost}
-use Rattle.hangul.specs.Promises.{jamoOf}
-use Rattle.hangul.proofs.Syllables.{length-jamoOf}
-use Rattle.table.specs.Table.{Table, table, formRefusal, entryOf, titleOf, partsOf, mappingOf}
+use Rattle.table.specs.Table.{Table, table, formRefusal, entryOf, titleOf, entryParts, mappingOf}
 use Rattle.table.specs.Promises.{placeFound}
-use Rattle.table.proofs.Form.{formed-ascending, entryOf-some, titleOf-some}
+use Rattle.table.proofs.Form.{formed-ascending, entryOf-some, titleOf-none, titleOf-some, partsOf-none}
 use Rattle.decompose.specs.Promises.{Bounded}
-use Rattle.decompose.proofs.Walk.{parts-none, parts-some, bounded-unfolds, bounded-asks}
-use Rattle.decompose.proofs.Expansion.{counted-title, counted-plain}
+use Rattle.decompose.proofs.Walk.{entry-split, entry-none, bounded-unfolds, bounded-asks}
+use Rattle.decompose.proofs.Expansion.{counted-titlecase, counted-title, counted-plain}
 use Rattle.decompose.proofs.Demand3.{accepted-form, accepted-all}
 use Rattle.decompose.proofs.size_expansion.Statement.{statement}
 use Rattle.decompose.proofs.size_expansion.Tie as tie
@@ -27,9 +24,11 @@ lent s = table (s .args .entries .now) (s .args .pool .now)
 form : (s : tie.Start) → formRefusal (lent s) ≡ none
 form s = accepted-form (lent s) (s .pre)
 
--- where no entry was found: that there is none
-missing : (c : tie.After-enum-told) → let a = c .before .before .before .before .before .args in
-    entryOf (a .entries .now) (a .c .0) ≡ none
+-- where no entry was found: the function's entry, and that there is none
+abbrev start-none : tie.After-enum-told → tie.Start
+start-none c = c .before .before .before .before .before
+
+missing : (c : tie.After-enum-told) → let a = start-none c .args in entryOf (a .entries .now) (a .c .0) ≡ none
 missing c = sym (c .before .before .find-entry .ensures) ∙ ap placeFound (c .enum-told .given .1)
 
 -- where one was found: which it is
@@ -51,13 +50,10 @@ bounded c =
     let s = start c in
     bounded-unfolds (mappingOf (lent s)) (c .title-at .result .0) (accepted-all (lent s) (s .pre) (c .title-at .result .0))
 
--- and where its parts were found: where it was read, and that they are its parts
-abbrev read-at : tie.After-title-parts → tie.After-title-at
-read-at c = c .before .before .before
-
+-- and where its parts were looked for: what the entries say
 parts : (c : tie.After-title-parts)
-    → c .title-parts .result .now ≡ partsOf (lent (start (read-at c))) (read-at c .title-at .result .0)
-parts c = c .title-parts .ensures ∙ ap (partsOf (lent (start (read-at c)))) (sym (read-at c .title-at .ensures))
+    → c .title-parts .result .now ≡ entryParts (lent (start (c .before))) (c .before .title-at .result .0)
+parts c = c .title-parts .ensures ∙ ap (entryParts (lent (start (c .before)))) (sym (c .before .title-at .ensures))
 
 -- the code points ascend
 find-entry-requires : tie.Need-find-entry-requires
@@ -69,61 +65,96 @@ enum-known-i c = search needs
 enum-told : tie.Need-enum-told
 enum-told c = search needs
 
-size-unlisted-requires : tie.Need-size-unlisted-requires
-size-unlisted-requires c κs = (c .before .before .before .before .before .pre, missing c)
+is-syllable-requires : tie.Need-is-syllable-requires
+is-syllable-requires c κs = search needs
 
--- no entry
+-- a syllable
+size-syllable-requires : tie.Need-size-syllable-requires
+size-syllable-requires c κs =
+    let looked = c .before in
+    (start-none (looked .before) .pre, sym (looked .is-syllable .ensures) ∙ c .if1 .taken)
+
 returns : tie.Need-returns
-returns c = c .size-unlisted .ensures
+returns c =
+    let none = c .before .before .before in
+    let s = start-none none in
+    let x = s .args .c .0 in
+    counted-title (mappingOf (lent s)) x x (titleOf-none (lent s .entries) x (missing none)) (c .size-syllable .ensures)
+
+octet-count-requires : tie.Need-octet-count-requires
+octet-count-requires c κs = search needs
+
+-- no entry, and no syllable
+returns-2 : tie.Need-returns-2
+returns-2 c =
+    let looked = c .before .before in
+    let s = start-none (looked .before) in
+    let x = s .args .c .0 in
+    let e = missing (looked .before) in
+    let other = sym (looked .is-syllable .ensures) ∙ c .before .if1 .left in
+    counted-plain (mappingOf (lent s)) x x (titleOf-none (lent s .entries) x e) (partsOf-none (lent s) x other e)
+    (c .octet-count .result) (c .octet-count .ensures)
 
 -- the entry is one
 title-at-requires : tie.Need-title-at-requires
 title-at-requires c κs = entryOf-some _ _ _ (found (c .before)) .0
 
-jamo-of-requires : tie.Need-jamo-of-requires
-jamo-of-requires c κs = search needs
-
-slice-aggregate-title-parts : tie.Need-slice-aggregate-title-parts
-slice-aggregate-title-parts c = length-jamoOf _ ∙ sym (ap length (c .before .jamo-of .ensures))
-
 -- it was found
 title-parts-requires : tie.Need-title-parts-requires
-title-parts-requires c κs =
-    let read = c .before .before in
-    (form (start read), (found (read .before .before), c .before .jamo-of .ensures ∙ ap jamoOf (read .title-at .ensures)))
+title-parts-requires c κs = (form (start c), found (c .before .before))
 
-octet-count-requires : tie.Need-octet-count-requires
-octet-count-requires c κs = search needs
+is-syllable-requires-2 : tie.Need-is-syllable-requires-2
+is-syllable-requires-2 c κs = search needs
 
--- a titlecase with no parts
-returns-2 : tie.Need-returns-2
-returns-2 c =
-    let parted = c .before .before in
-    let read = read-at parted in
-    let m = mappingOf (lent (start read)) in
+-- a titlecase that is a syllable
+size-syllable-requires-2 : tie.Need-size-syllable-requires-2
+size-syllable-requires-2 c κs =
+    let looked = c .before in
+    (start (looked .before .before .before) .pre, sym (looked .is-syllable2 .ensures) ∙ c .if3 .taken)
+
+returns-3 : tie.Need-returns-3
+returns-3 c =
+    let read = c .before .before .before .before .before in
+    counted-title (mappingOf (lent (start read))) (start read .args .c .0) (read .title-at .result .0) (title read)
+    (c .size-syllable2 .ensures)
+
+octet-count-requires-2 : tie.Need-octet-count-requires-2
+octet-count-requires-2 c κs = search needs
+
+-- a titlecase that stays
+returns-4 : tie.Need-returns-4
+returns-4 c =
+    let looked = c .before .before in
+    let parted = looked .before .before in
+    let read = parted .before in
+    let t = lent (start read) in
     let x = read .title-at .result .0 in
-    counted-plain m (start read .args .c .0) x (title read) (parts-none m x _ (parts parted) (c .before .if1 .taken))
-    (c .octet-count .result) (c .octet-count .ensures)
+    let other = sym (looked .is-syllable2 .ensures) ∙ c .before .if3 .left in
+    counted-plain (mappingOf t) (start read .args .c .0) x (title read)
+    (entry-none t x _ (parts parted) (looked .before .if2 .taken) other)
+    (c .octet-count2 .result) (c .octet-count2 .ensures)
 
 -- its titlecase has these parts, and unfolds
 size-unfolded-requires : tie.Need-size-unfolded-requires
 size-unfolded-requires c κs =
-    let read = read-at (c .before) in
-    (form (start read), (parts-some (parts (c .before)) (c .if1 .left), bounded read))
+    let read = c .before .before in
+    let s = start read in
+    (form s, (entry-split (lent s) (form s) (parts (c .before)) (c .if2 .left), bounded read))
 
 -- for few asks
-add-t16 : tie.Need-add-t16
-add-t16 c =
+add-t15 : tie.Need-add-t15
+add-t15 c =
     let called = c .before in
-    omega (arith, called .size-unfolded .ensures .asked, bounded-asks (bounded (read-at (called .before .before))))
+    omega (arith, called .size-unfolded .ensures .asked, bounded-asks (bounded (called .before .before .before)))
 
 -- an entry
-returns-3 : tie.Need-returns-3
-returns-3 c =
+returns-5 : tie.Need-returns-5
+returns-5 c =
     let called = c .before in
-    let read = read-at (called .before .before) in
-    counted-title (mappingOf (lent (start read))) (start read .args .c .0) (read .title-at .result .0) (title read)
-    (called .size-unfolded .result) (called .size-unfolded .ensures)
+    let read = called .before .before .before in
+    let m = mappingOf (lent (start read)) in
+    let x = read .title-at .result .0 in
+    counted-title m (start read .args .c .0) x (title read) (counted-titlecase m x (called .size-unfolded .ensures))
 
 pub size-expansion-spec : {M : Type 1} → statement M
 size-expansion-spec =
@@ -132,14 +163,18 @@ size-expansion-spec =
     find-entry-requires
     enum-known-i
     enum-told
-    size-unlisted-requires
+    is-syllable-requires
+    size-syllable-requires
     returns
-    title-at-requires
-    jamo-of-requires
-    slice-aggregate-title-parts
-    title-parts-requires
     octet-count-requires
     returns-2
+    title-at-requires
+    title-parts-requires
+    is-syllable-requires-2
+    size-syllable-requires-2
+    returns-3
+    octet-count-requires-2
+    returns-4
     size-unfolded-requires
-    add-t16
-    returns-3)
+    add-t15
+    returns-5)

@@ -1,25 +1,22 @@
--- `decompose::write_expansion` meets its contract: a code point without an entry is left to `write_unlisted`; with one, its
--- expansion is the titlecase if that has no parts, for two asks; and else the titlecase unfolds, since every code point does
--- over an accepted table.
+-- `decompose::write_expansion` meets its contract: a code point without an entry is its own titlecase; a titlecase of which the
+-- entries say no parts is a syllable or stays as it is, for two asks; any other unfolds, since every code point does over an
+-- accepted table.
 -- Assumes nothing.
 use native.Mathlib.Omega.{arith}
 use mathlib.Core.Path.{_≡_, sym, ap, _∙_}
 use mathlib.Core.Bool.{true}
 use mathlib.Core.Option.{none, some}
 use mathlib.Core.List.{[]}
-use lib.ListN.{length}
 use borrow.Author.Needs.{needs}
 use Rattle.terms.specs.CodePoints.{scalar}
 use Rattle.terms.specs.Refusals.{levelsMost}
-use Rattle.hangul.specs.Promises.{jamoOf}
-use Rattle.hangul.proofs.Syllables.{length-jamoOf}
-use Rattle.table.specs.Table.{Table, table, formRefusal, entryOf, titleOf, partsOf, mappingOf}
+use Rattle.table.specs.Table.{Table, table, formRefusal, entryOf, titleOf, entryParts, partsOf, mappingOf}
 use Rattle.table.specs.Promises.{placeFound}
-use Rattle.table.proofs.Form.{formed-ascending, formed-title-scalar, entryOf-some, titleOf-some}
+use Rattle.table.proofs.Form.{formed-ascending, formed-title-scalar, entryOf-some, titleOf-none, titleOf-some, partsOf-none}
 use Rattle.utf8.proofs.Encode.{scalar-most}
 use Rattle.decompose.specs.Promises.{Bounded}
-use Rattle.decompose.proofs.Walk.{parts-none, parts-some, bounded-unfolds, bounded-asks}
-use Rattle.decompose.proofs.Expansion.{expanded-title, filled-title, expanded-plain, filled-plain}
+use Rattle.decompose.proofs.Walk.{entry-split, entry-none, bounded-unfolds, bounded-asks}
+use Rattle.decompose.proofs.Expansion.{expanded-title, filled-titlecase, filled-title, expanded-plain, filled-plain}
 use Rattle.decompose.proofs.Demand3.{accepted-form, accepted-all}
 use Rattle.decompose.proofs.write_expansion.Statement.{statement}
 use Rattle.decompose.proofs.write_expansion.Tie as tie
@@ -31,10 +28,23 @@ lent s = table (s .args .entries .now) (s .args .pool .now)
 form : (s : tie.Start) → formRefusal (lent s) ≡ none
 form s = accepted-form (lent s) (s .pre .0)
 
--- where no entry was found: that there is none
-missing : (c : tie.After-enum-told) → let a = c .before .before .before .before .before .before .args in
-    entryOf (a .entries .now) (a .c .0) ≡ none
+-- where no entry was found: the function's entry, that there is none, and that the code point is its own titlecase; where it is
+-- no syllable, it has no parts
+abbrev start-none : tie.After-enum-told → tie.Start
+start-none c = c .before .before .before .before .before .before
+
+missing : (c : tie.After-enum-told) → let a = start-none c .args in entryOf (a .entries .now) (a .c .0) ≡ none
 missing c = sym (c .before .before .find-entry .ensures) ∙ ap placeFound (c .enum-told .given .1)
+
+own : (c : tie.After-enum-told) → let s = start-none c in titleOf (lent s .entries) (s .args .c .0) ≡ s .args .c .0
+own c = let s = start-none c in titleOf-none (lent s .entries) (s .args .c .0) (missing c)
+
+whole : (c : tie.Else1) → let s = start-none (c .before .before) in partsOf (lent s) (s .args .c .0) ≡ []
+whole c =
+    let none = c .before .before in
+    let s = start-none none in
+    let other = sym (c .before .is-syllable .ensures) ∙ c .if1 .left in
+    partsOf-none (lent s) (s .args .c .0) other (missing none)
 
 -- where one was found: which it is
 found : (c : tie.After-i) → let a = c .before .before .before .before .before .before .args in
@@ -60,18 +70,18 @@ bounded c =
     let s = start c in
     bounded-unfolds (mappingOf (lent s)) (c .title-at .result .0) (accepted-all (lent s) (s .pre .0) (c .title-at .result .0))
 
--- where its parts were found: where it was read, and that they are its parts; and where there are none
-abbrev read-at : tie.After-title-parts → tie.After-title-at
-read-at c = c .before .before .before
-
+-- where its parts were looked for: what the entries say; and where there are none, and it is no syllable
 parts : (c : tie.After-title-parts)
-    → c .title-parts .result .now ≡ partsOf (lent (start (read-at c))) (read-at c .title-at .result .0)
-parts c = c .title-parts .ensures ∙ ap (partsOf (lent (start (read-at c)))) (sym (read-at c .title-at .ensures))
+    → c .title-parts .result .now ≡ entryParts (lent (start (c .before))) (c .before .title-at .result .0)
+parts c = c .title-parts .ensures ∙ ap (entryParts (lent (start (c .before)))) (sym (c .before .title-at .ensures))
 
-plain : (c : tie.Then1) → let read = read-at (c .before) in partsOf (lent (start read)) (read .title-at .result .0) ≡ []
+plain : (c : tie.Else3) → let read = c .before .before .before .before in
+    partsOf (lent (start read)) (read .title-at .result .0) ≡ []
 plain c =
-    let read = read-at (c .before) in
-    parts-none (mappingOf (lent (start read))) (read .title-at .result .0) _ (parts (c .before)) (c .if1 .taken)
+    let none = c .before .before in
+    let read = none .before .before in
+    let other = sym (c .before .is-syllable2 .ensures) ∙ c .if3 .left in
+    entry-none (lent (start read)) (read .title-at .result .0) _ (parts (none .before)) (none .if2 .taken) other
 
 -- the code points ascend
 find-entry-requires : tie.Need-find-entry-requires
@@ -83,84 +93,129 @@ enum-known-i c = search needs
 enum-told : tie.Need-enum-told
 enum-told c = search needs
 
-write-unlisted-requires : tie.Need-write-unlisted-requires
-write-unlisted-requires c κs =
-    let none = c .before in
-    let p = none .before .before .before .before .before .before .pre in
-    (p .0, (missing none, p .1))
+is-syllable-requires : tie.Need-is-syllable-requires
+is-syllable-requires c κs = search needs
+
+-- a syllable, and room for its octets
+write-syllable-requires : tie.Need-write-syllable-requires
+write-syllable-requires c κs =
+    let looked = c .before .before in
+    let none = looked .before in
+    let s = start-none none in
+    let octets = expanded-title (mappingOf (lent s)) (s .args .c .0) (s .args .c .0) (own none) in
+    (s .pre .0, (sym (looked .is-syllable .ensures) ∙ c .before .if1 .taken, rw octets at (s .pre .1 .1)))
 
 same-length : tie.Need-same-length
 same-length c = search needs
 
--- no entry
+-- a syllable
 returns : tie.Need-returns
-returns c = c .before .before .write-unlisted .ensures
+returns c =
+    let called = c .before .before in
+    let none = called .before .before .before .before in
+    let s = start-none none in
+    filled-title (mappingOf (lent s)) (s .args .c .0) (s .args .c .0) (own none) (called .write-syllable .ensures)
+
+-- a scalar code point, and room for its octets
+write-character-requires : tie.Need-write-character-requires
+write-character-requires c κs =
+    let none = c .before .before .before in
+    let s = start-none none in
+    let x = s .args .c .0 in
+    (scalar-most x (s .pre .1 .0), rw (expanded-plain (mappingOf (lent s)) x x (own none) (whole (c .before))) at (s .pre .1 .1))
+
+same-length-2 : tie.Need-same-length-2
+same-length-2 c = search needs
+
+-- no entry, and no syllable
+returns-2 : tie.Need-returns-2
+returns-2 c =
+    let called = c .before .before in
+    let other = called .before .before in
+    let none = other .before .before in
+    let s = start-none none in
+    filled-plain (mappingOf (lent s)) (s .args .c .0) (s .args .c .0) (own none) (whole other) (s .args .out .now) _ _
+    (called .write-character .ensures)
 
 -- the entry is one
 title-at-requires : tie.Need-title-at-requires
 title-at-requires c κs = entryOf-some _ _ _ (found (c .before)) .0
 
-jamo-of-requires : tie.Need-jamo-of-requires
-jamo-of-requires c κs = search needs
-
-slice-aggregate-title-parts : tie.Need-slice-aggregate-title-parts
-slice-aggregate-title-parts c = length-jamoOf _ ∙ sym (ap length (c .before .jamo-of .ensures))
-
 -- it was found
 title-parts-requires : tie.Need-title-parts-requires
-title-parts-requires c κs =
-    let read = c .before .before in
-    (form (start read), (found (read .before .before), c .before .jamo-of .ensures ∙ ap jamoOf (read .title-at .ensures)))
+title-parts-requires c κs = (form (start c), found (c .before .before))
+
+is-syllable-requires-2 : tie.Need-is-syllable-requires-2
+is-syllable-requires-2 c κs = search needs
+
+-- the titlecase is a syllable, and there is room for its octets
+write-syllable-requires-2 : tie.Need-write-syllable-requires-2
+write-syllable-requires-2 c κs =
+    let looked = c .before .before in
+    let read = looked .before .before .before in
+    let s = start read in
+    let octets = expanded-title (mappingOf (lent s)) (s .args .c .0) _ (title read) in
+    (s .pre .0, (sym (looked .is-syllable2 .ensures) ∙ c .before .if3 .taken, rw octets at (s .pre .1 .1)))
+
+same-length-3 : tie.Need-same-length-3
+same-length-3 c = search needs
+
+-- a syllable for a titlecase
+returns-3 : tie.Need-returns-3
+returns-3 c =
+    let called = c .before .before in
+    let read = called .before .before .before .before .before .before in
+    let s = start read in
+    filled-title (mappingOf (lent s)) (s .args .c .0) _ (title read) (called .write-syllable2 .ensures)
 
 -- the titlecase is scalar, and there is room for its octets
-write-character-requires : tie.Need-write-character-requires
-write-character-requires c κs =
-    let read = read-at (c .before .before) in
+write-character-requires-2 : tie.Need-write-character-requires-2
+write-character-requires-2 c κs =
+    let read = c .before .before .before .before .before in
     let s = start read in
     let octets = expanded-plain (mappingOf (lent s)) (s .args .c .0) _ (title read) (plain (c .before)) in
     (scalar-most _ (scalar-title read), rw octets at (s .pre .1 .1))
 
-same-length-2 : tie.Need-same-length-2
-same-length-2 c = search needs
+same-length-4 : tie.Need-same-length-4
+same-length-4 c = search needs
 
--- the titlecase has no parts
-returns-2 : tie.Need-returns-2
-returns-2 c =
+-- the titlecase stays
+returns-4 : tie.Need-returns-4
+returns-4 c =
     let called = c .before .before in
-    let whole = called .before .before in
-    let read = read-at (whole .before) in
+    let other = called .before .before in
+    let read = other .before .before .before .before in
     let s = start read in
-    filled-plain (mappingOf (lent s)) (s .args .c .0) _ (title read) (plain whole) (s .args .out .now) _ _
-    (called .write-character .ensures)
+    filled-plain (mappingOf (lent s)) (s .args .c .0) _ (title read) (plain other) (s .args .out .now) _ _
+    (called .write-character2 .ensures)
 
 -- the titlecase has these parts, is scalar and unfolds, and there is room
 write-unfolded-requires : tie.Need-write-unfolded-requires
 write-unfolded-requires c κs =
     let parted = c .before .before in
-    let read = read-at parted in
+    let read = parted .before in
     let s = start read in
     let octets = expanded-title (mappingOf (lent s)) (s .args .c .0) _ (title read) in
-    let split = parts-some (parts parted) (c .before .if1 .left) in
+    let split = entry-split (lent s) (form s) (parts parted) (c .before .if2 .left) in
     (form s, (split, (scalar-title read, (bounded read, rw octets at (s .pre .1 .1)))))
 
 -- for few asks
-add-t23 : tie.Need-add-t23
-add-t23 c =
+add-t26 : tie.Need-add-t26
+add-t26 c =
     let called = c .before .before .before in
-    let read = read-at (called .before .before .before) in
+    let read = called .before .before .before .before in
     omega (arith, called .write-unfolded .ensures .counted .asked, bounded-asks (bounded read))
 
-same-length-3 : tie.Need-same-length-3
-same-length-3 c = search needs
+same-length-5 : tie.Need-same-length-5
+same-length-5 c = search needs
 
 -- the titlecase has parts
-returns-3 : tie.Need-returns-3
-returns-3 c =
+returns-5 : tie.Need-returns-5
+returns-5 c =
     let called = c .before .before .before in
-    let read = read-at (called .before .before .before) in
-    let s = start read in
-    filled-title (mappingOf (lent s)) (s .args .c .0) _ (title read) (s .args .out .now)
-    (called .write-unfolded .result) _ (called .write-unfolded .ensures)
+    let read = called .before .before .before .before in
+    let m = mappingOf (lent (start read)) in
+    filled-title m (start read .args .c .0) _ (title read) (filled-titlecase m _ (called .write-unfolded .ensures))
 
 pub write-expansion-spec : {M : Type 1} → statement M
 write-expansion-spec =
@@ -169,17 +224,23 @@ write-expansion-spec =
     find-entry-requires
     enum-known-i
     enum-told
-    write-unlisted-requires
+    is-syllable-requires
+    write-syllable-requires
     same-length
     returns
-    title-at-requires
-    jamo-of-requires
-    slice-aggregate-title-parts
-    title-parts-requires
     write-character-requires
     same-length-2
     returns-2
-    write-unfolded-requires
-    add-t23
+    title-at-requires
+    title-parts-requires
+    is-syllable-requires-2
+    write-syllable-requires-2
     same-length-3
-    returns-3)
+    returns-3
+    write-character-requires-2
+    same-length-4
+    returns-4
+    write-unfolded-requires
+    add-t26
+    same-length-5
+    returns-5)
