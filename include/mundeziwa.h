@@ -15,12 +15,20 @@
  * TABLE. entries holds MZ_ENTRY_WIDTH numbers for each entry: code point, titlecase (the code point itself if none), start of its
  * decomposition in the pool, number of code points there. Entries ascend by code point; a start is the sum of all earlier counts.
  * mz_add_line builds such a table from the lines of UnicodeData.txt; mz_check_table says whether one is accepted. Two empty
- * slices are an accepted table, in which every code point maps to itself.
+ * slices are an accepted table, in which every code point but the Hangul syllables maps to itself.
+ *
+ * HANGUL. The syllables, AC00 to D7A3 hex, map by the Unicode Standard's rule, whatever the table says: with s the distance from
+ * AC00, a syllable decomposes into 1100 + s / 588, 1161 + s % 588 / 28 and, if s % 28 is not 0, 11A7 + s % 28 (base numbers hex).
+ * These parts, its jamo, are then looked up as any other part is. So a Korean name in syllables has the key of the same name in
+ * jamo (unless a table gives a jamo a titlecase, as no edition does), and a caller needs no lines for syllables: UnicodeData.txt
+ * has but two, the ends of their range, which say nothing. A table with an entry for one is refused (4), and so is a line with a
+ * mapping for one (25).
  *
  * KEYS. The key of a text stands at the start of the lent key buffer, and the octets after it stay as they were; but a key that
  * is the text itself (i;octet, and an invalid text under i;unicode-casemap) is not copied, and the buffer stays. Over an
  * accepted table a key has at most 128 octets for each character of its text. A buffer of MZ_KEY_PER_OCTET_MOST times the
- * text's length in octets is always long enough, and the call is then quickest.
+ * text's length in octets is always long enough, and the call is then quickest. One as long as the text may be too short over any
+ * table, also two empty slices: a Hangul syllable of 3 octets becomes 6 or 9.
  *
  * ANSWERS. Each call writes the whole of its answer row. answer[0] is the refusal number, 0 if the call was not refused;
  * answer[1] the place: 1 or 2, which text or list (a lone text is 1), 0 neither; answer[2] the detail, which the refusals below
@@ -63,15 +71,16 @@ extern "C" {
 #define MZ_KIND_KEY 2  /* a key, with its collation, whether the text was valid under it, and the text's length */
 
 /* Refusals of a call on texts, in their order; 3 to 7 are those of mz_check_table. The place is which text for 2 and 8, else 0.
- * The detail is for 2 the text's length; for 4, 5 and 7 the lowest such entry, counted from 0 (for 5 the number of entries, if
- * no entry is at fault and the pool is too long); for 6 the lowest such index; for 8 the length needed; else 0. */
+ * The detail is for 2 the text's length; for 4, 5 and 7 the lowest such entry, counted from 0 (if no entry is at fault, the number
+ * of entries: for 5 where the pool is too long, for 7 where a Hangul syllable is at fault); for 6 the lowest such index; for 8 the
+ * length needed; else 0. */
 #define MZ_REFUSED_COLLATION 1   /* the number is no collation's */
 #define MZ_REFUSED_TEXT_LENGTH 2 /* a text is over MZ_TEXT_MOST */
 #define MZ_REFUSED_TABLE_SIZE 3  /* entries not whole or over MZ_ENTRIES_MOST, or a pool over MZ_POOL_MOST */
-#define MZ_REFUSED_CODE_POINT 4  /* a code point or titlecase is no Unicode scalar value, or code points do not ascend */
+#define MZ_REFUSED_CODE_POINT 4  /* a code point or titlecase is no scalar value; a code point is a syllable, or does not ascend */
 #define MZ_REFUSED_ENTRY 5       /* a count over 32, a wrong start, parts past the pool, saying nothing; a pool too long */
 #define MZ_REFUSED_POOL_NUMBER 6 /* a pool number is no Unicode scalar value */
-#define MZ_REFUSED_LEVEL 7       /* a code point does not unfold within 8 levels into at most 32 code points */
+#define MZ_REFUSED_LEVEL 7       /* an entry or a Hangul syllable does not unfold within 8 levels into at most 32 code points */
 #define MZ_REFUSED_KEY_ROOM 8    /* a key that belongs in a buffer is longer than it */
 
 /* Refusals of mz_add_line, in their order; place and detail are 0. */
@@ -82,7 +91,7 @@ extern "C" {
 #define MZ_REFUSED_FIELD_5 23     /* field 5, the decomposition, is malformed */
 #define MZ_REFUSED_FIELD_12 29    /* field 12, the uppercase, is malformed, whatever field 14 has */
 #define MZ_REFUSED_FIELD_14 24    /* field 14, the titlecase, is malformed */
-#define MZ_REFUSED_SURROGATE 25   /* a mapping with a surrogate in field 0 or 5 or as the titlecase that is taken */
+#define MZ_REFUSED_SURROGATE 25   /* a mapping for a Hangul syllable, or with a surrogate in field 0 or 5 or as its titlecase */
 #define MZ_REFUSED_ORDER 26       /* the code point is not above the last */
 #define MZ_REFUSED_NO_ROOM 27     /* no room for the entry or its parts, or a limit of a table passed */
 

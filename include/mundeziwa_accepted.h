@@ -1,8 +1,8 @@
 /* Mundeziwa: the calls on texts and lists WITHOUT THE CHECK OF THE TABLE, for callers that keep one table for many texts.
  *
- * UNDER MZ_UNICODE_CASEMAP THEY MUST BE GIVEN A TABLE THAT mz_check_table HAS ACCEPTED (answer[0] was 0), WITH NO NUMBER OF
- * entries OR pool CHANGED SINCE. ON ANY OTHER TABLE THE BEHAVIOUR IS UNDEFINED: THEY MAY READ OR WRITE OUTSIDE THE SLICES, OR
- * NEVER RETURN.
+ * UNDER MZ_UNICODE_CASEMAP THEY MUST BE GIVEN A TABLE THAT mz_check_table OF THE SAME LIBRARY HAS ACCEPTED (answer[0] was 0), WITH
+ * NO NUMBER OF entries OR pool CHANGED SINCE. ON ANY OTHER TABLE THE BEHAVIOUR IS UNDEFINED: THEY MAY READ OR WRITE OUTSIDE THE
+ * SLICES, OR NEVER RETURN. (Another library may check less: earlier ones took entries for Hangul syllables.)
  *
  * On an accepted table each answers exactly as its twin in mundeziwa.h, which says what the parameters and the answer rows are.
  * The refusals are those of the twin but for 3 to 7. Under the other collations the table is not read, and any will do.
