@@ -52,6 +52,7 @@ impl TableBuilder {
     /// Adds one line, without its line end. On a refusal the builder stays as it was.
     ///
     /// Refusals 20 to 23, 29, 24 to 27. The titlecase is field 14's, field 12's where 14 is empty, and none where both are.
+    /// Hangul syllables need no lines: they map by rule, and a line with a mapping for one is refused with 25.
     ///
     /// ```
     /// let mut builder = mundeziwa::TableBuilder::new();
@@ -152,7 +153,7 @@ impl TableBuilder {
 
     /// The table of the lines so far, checked. It has slices of its own: the builder may go on, or go.
     ///
-    /// Refusal 7: lines may decompose in a circle, too deep or too wide.
+    /// Refusal 7: lines may decompose in a circle, too deep or too wide, and those for jamo so that a Hangul syllable does.
     ///
     /// ```
     /// use mundeziwa::{Refusal, Table, TableBuilder};

@@ -13,8 +13,9 @@
 //! each part again by its own, until nothing decomposes. Both stand in a [`Table`], built from lines of UnicodeData.txt: an
 //! *entry* for each code point with a titlecase or a decomposition, and the decompositions one after another in its *pool*.
 //! Each time it is asked for one is a *lookup*. A letter without an entry stays as it is, and nothing warns of it: for names of
-//! any origin take the whole published file. A text that is not valid UTF-8 is its own key. [`RefusalKind`] has what is
-//! refused; docs/SCOPE.md of the repository, "document 01", has every rule.
+//! any origin take the whole published file. Hangul syllables alone have no entries: they decompose by rule into their jamo,
+//! whatever the table, so that a Korean name meets itself in either spelling. A text that is not valid UTF-8 is its own key.
+//! [`RefusalKind`] has what is refused; docs/SCOPE.md of the repository, "document 01", has every rule.
 //!
 //! Which names two lists share, of at most 1,024 names each:
 //!
@@ -138,7 +139,8 @@ pub enum Collation {
     Octet = 1,
     /// `i;ascii-casemap`: the letters a to z are raised.
     AsciiCasemap = 2,
-    /// `i;unicode-casemap`: titlecase and full decomposition over the table; a text that is not valid UTF-8 is its own key.
+    /// `i;unicode-casemap`: titlecase and full decomposition over the table, that of Hangul syllables by rule; a text that is not
+    /// valid UTF-8 is its own key.
     UnicodeCasemap = 3,
 }
 

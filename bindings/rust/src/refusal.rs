@@ -29,6 +29,8 @@ enum Given {
     OneText,
     Two,
     Many,
+    /// A table with so many entries.
+    Table(u64),
 }
 
 impl Refusal {
@@ -43,6 +45,11 @@ impl Refusal {
     /// The same of a call on one text, of which a sentence doesn't say that it is the first.
     pub(crate) fn of_lone_text(row: &[u64]) -> Result<(), Refusal> {
         Refusal::of(row).map_err(|refusal| Refusal { given: Given::OneText, ..refusal })
+    }
+
+    /// The same of the check of a table with so many entries.
+    pub(crate) fn of_table(row: &[u64], entry_count: usize) -> Result<(), Refusal> {
+        Refusal::of(row).map_err(|refusal| Refusal { given: Given::Table(entry_count as u64), ..refusal })
     }
 
     /// The same of a call on many texts or keys, where the detail says which.
@@ -104,7 +111,8 @@ impl Refusal {
         self.place
     }
 
-    /// A length, an entry or an index, as the sentence says; 0 if there is none.
+    /// A length, an entry or an index, as the sentence says; 0 if there is none. (For 5 and 7 the number of entries, where none
+    /// of them is at fault.)
     ///
     /// ```
     /// use mundeziwa::{Collation, Table};
@@ -114,6 +122,11 @@ impl Refusal {
     /// ```
     pub fn detail(&self) -> u64 {
         self.detail
+    }
+
+    /// Whether a table is refused and none of its entries is at fault: the detail of 5 and 7 is then the number of entries.
+    fn is_past_entries(&self) -> bool {
+        self.given == Given::Table(self.detail)
     }
 
     fn text(&self) -> &'static str {
@@ -159,12 +172,14 @@ impl fmt::Display for Refusal {
             TextTooLong => write!(f, "{} has {detail} octets, and at most 4096 are taken", self.text()),
             TableSize => write!(f, "the entries are not four numbers each, or over 16384, or the pool has over 65536 numbers"),
             CodePoint => {
-                write!(f, "entry {detail} has a code point or titlecase that is no Unicode scalar value, or is not above the one before")
+                write!(f, "entry {detail} has a code point or titlecase that is no Unicode scalar value, is for a Hangul syllable (these map by rule), or is not above the one before")
             }
-            Entry => {
-                write!(f, "entry {detail} is faulty or, if there is none with that number, the pool is longer than all counts")
-            }
+            Entry if self.is_past_entries() => write!(f, "the pool is longer than the counts of all entries together"),
+            Entry => write!(f, "entry {detail} has a count over 32, a wrong start or parts past the pool, or says nothing"),
             PoolNumber => write!(f, "pool number {detail} is no Unicode scalar value: a surrogate, or above 10FFFF"),
+            NoLevel if self.is_past_entries() => {
+                write!(f, "a Hangul syllable whose jamo decompose does not unfold within 8 levels into at most 32 code points")
+            }
             NoLevel => write!(f, "entry {detail} does not unfold within 8 levels into at most 32 code points"),
             KeyRoom => write!(f, "the key of {} needs a buffer of {detail} octets", self.text()),
             NoTab => write!(f, "the line has no tab"),
@@ -182,7 +197,9 @@ impl fmt::Display for Refusal {
             Field5 => write!(f, "field 5 is neither empty nor a decomposition of 1 to 32 code points"),
             Field12 => write!(f, "field 12 is not empty and {CODE_POINT}"),
             Field14 => write!(f, "field 14 is not empty and {CODE_POINT} (a carriage return before the line feed is part of it)"),
-            Surrogate => write!(f, "a line with a mapping has a surrogate in field 0, 5 or 14, or in 12 where 14 is empty"),
+            Surrogate => {
+                write!(f, "a line with a mapping is for a Hangul syllable (these map by rule), or has a surrogate in field 0, 5 or 14, or in 12 where 14 is empty")
+            }
             LineOrder => write!(f, "the code point is not above that of the line before"),
             NoRoom => write!(f, "the table has no room for the entry or its parts"),
             State => write!(f, "no line can have left this state"),

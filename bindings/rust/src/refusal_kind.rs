@@ -73,13 +73,14 @@ refusal_kinds! {
     TextTooLong = 2, "text too long";
     /// The entries are not whole or too many, or the pool is too long.
     TableSize = 3, "table size";
-    /// An entry's code point or titlecase is no Unicode scalar value, or the entries do not ascend.
+    /// An entry's code point or titlecase is no Unicode scalar value, the entry is for a Hangul syllable, which maps by rule, or
+    /// the entries do not ascend.
     CodePoint = 4, "code point";
     /// An entry has a count over 32, a wrong start, parts past the pool's end, or says nothing; or the pool is too long.
     Entry = 5, "entry";
     /// A number of the pool is no Unicode scalar value.
     PoolNumber = 6, "pool number";
-    /// A code point does not unfold within 8 levels into at most 32 code points.
+    /// The code point of an entry, or a Hangul syllable, does not unfold within 8 levels into at most 32 code points.
     NoLevel = 7, "no level";
     /// A key is longer than the buffer lent for it. The C interface also answers it where a record has no room, and where the
     /// store or an array of a call on lists is too short; the writers of [`records`](crate::records) and
@@ -107,8 +108,9 @@ refusal_kinds! {
     Field12 = 29, "field 12";
     /// Field 14, the titlecase, is malformed.
     Field14 = 24, "field 14";
-    /// A data line with a mapping has a surrogate in field 0 or 5, or as the titlecase that is taken.
-    Surrogate = 25, "surrogate";
+    /// A data line with a mapping is for a Hangul syllable, which maps by rule, or has a surrogate in field 0 or 5, or as the
+    /// titlecase that is taken.
+    Surrogate = 25, "surrogate or syllable";
     /// A data line's code point is not above that of the line before.
     LineOrder = 26, "order of lines";
     /// The table has no room for the line's entry or its parts.

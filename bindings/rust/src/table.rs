@@ -7,6 +7,9 @@ use std::cmp::Ordering;
 use std::fmt;
 use std::ops::Range;
 
+/// The numbers of an entry.
+const ENTRY_WIDTH: usize = 4;
+
 /// A mapping table that was checked and accepted. It owns its two slices, or borrows them for ever, so that nobody can change
 /// them: this is what the calls of include/mundeziwa_accepted.h ask for, and the crate makes them over such a table alone.
 ///
@@ -84,6 +87,9 @@ impl Table {
     ///
     /// // The same parts, but from a wrong start.
     /// assert_eq!(Table::new(&[0xE9, 0xE9, 1, 2], &POOL).unwrap_err().number(), 5);
+    ///
+    /// // A Hangul syllable maps by rule, and has no entry.
+    /// assert_eq!(Table::new(&[0xAC00, 0xAC00, 0, 2], &[0x1100, 0x1161]).unwrap_err().number(), 4);
     /// # Ok::<(), mundeziwa::Refusal>(())
     /// ```
     pub fn new(entries: impl Into<Cow<'static, [u32]>>, pool: impl Into<Cow<'static, [u32]>>) -> Result<Table, Refusal> {
@@ -92,22 +98,24 @@ impl Table {
         let mut answer = [0; 3];
         // SAFETY: the pointers and lengths are those of live slices, and the answer row has three numbers.
         unsafe { ffi::mz_check_table(entries.as_ptr(), entries.len(), pool.as_ptr(), pool.len(), &mut answer) };
-        Refusal::of(&answer)?;
+        Refusal::of_table(&answer, entries.len() / ENTRY_WIDTH)?;
         Ok(Table { entries, pool })
     }
 
-    /// The table without an entry, in which every code point maps to itself. It serves [`Collation::Octet`] and
-    /// [`Collation::AsciiCasemap`], which read no table.
+    /// The table without an entry, in which every code point but the Hangul syllables maps to itself. It serves
+    /// [`Collation::Octet`] and [`Collation::AsciiCasemap`], which read no table.
     ///
     /// ```
     /// use mundeziwa::{Collation, Table};
     ///
     /// assert!(Table::empty().equal(Collation::AsciiCasemap, "Beryl", "BERYL")?);
+    /// // The syllable 한 and its three jamo.
+    /// assert!(Table::empty().equal(Collation::UnicodeCasemap, "\u{D55C}", "\u{1112}\u{1161}\u{11AB}")?);
     /// # Ok::<(), mundeziwa::Refusal>(())
     /// ```
     pub fn empty() -> Table {
         ffi::check_interface();
-        // Two empty slices are always accepted.
+        // Two empty slices are always accepted: a syllable unfolds into its jamo at one level.
         Table { entries: Cow::Borrowed(&[]), pool: Cow::Borrowed(&[]) }
     }
 
@@ -303,6 +311,6 @@ impl Table {
 /// The number of entries and of pool numbers, not the numbers themselves.
 impl fmt::Debug for Table {
     fn fmt(&self, f: &mut fmt::Formatter<'_>) -> fmt::Result {
-        f.debug_struct("Table").field("entries", &(self.entries.len() / 4)).field("pool", &self.pool.len()).finish()
+        f.debug_struct("Table").field("entries", &(self.entries.len() / ENTRY_WIDTH)).field("pool", &self.pool.len()).finish()
     }
 }

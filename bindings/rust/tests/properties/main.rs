@@ -110,6 +110,18 @@ fn a_broken_text_never_equals_a_valid_one() {
     });
 }
 
+#[test]
+fn no_syllable_is_left_in_the_key_of_a_valid_text() {
+    for_cases(|random| {
+        let table = tables::some(random);
+        let [text, _] = texts::related(random, &table);
+        if std::str::from_utf8(&text).is_ok() {
+            let key = String::from_utf8(key(&table, UNICODE, &text)).expect("a valid text has a valid key");
+            assert!(!key.chars().any(|c| ('\u{AC00}'..='\u{D7A3}').contains(&c)), "{text:02X?} {key:?}");
+        }
+    });
+}
+
 /// The lowest occurrence of one list of octets in another.
 fn lowest(needle: &[u8], hay: &[u8]) -> Option<usize> {
     (0..=hay.len().checked_sub(needle.len())?).find(|&at| hay[at..].starts_with(needle))

@@ -28,19 +28,27 @@ pub fn some(random: &mut Random) -> Table {
     }
 }
 
-/// A code point of one of the widths, never a surrogate.
+/// A code point of one of the widths, never a surrogate; now and then a Hangul syllable, or a jamo that many of them have.
 pub fn code_point(random: &mut Random) -> u32 {
-    match random.below(4) {
+    match random.below(6) {
         0 => random.between(0x41, 0x5A) as u32,
         1 => random.between(0xC0, 0x17F) as u32,
         2 => random.between(0x1E00, 0x1E20) as u32,
+        3 => random.pick(&[0x1100, 0x1101, 0x1161, 0x1162, 0x11A7, 0x11A8, 0x11A9]),
+        4 => random.between(0xAC00, 0xAC1D) as u32,
         _ => random.between(0x1F600, 0x1F610) as u32,
     }
+}
+
+/// Whether a code point is a Hangul syllable, which no entry is for.
+fn is_syllable(code: u32) -> bool {
+    (0xAC00..=0xD7A3).contains(&code)
 }
 
 /// Some mappings in the order of their code points. They may decompose in a circle, too deep or too wide.
 pub fn mappings(random: &mut Random) -> Vec<Mapping> {
     let mut codes: Vec<u32> = (0..random.below(12)).map(|_| code_point(random)).collect();
+    codes.retain(|&code| !is_syllable(code));
     codes.sort_unstable();
     codes.dedup();
     let mut mappings = Vec::new();

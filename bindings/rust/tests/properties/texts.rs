@@ -4,7 +4,7 @@ use crate::tables::code_point;
 use mundeziwa::Table;
 
 /// Letters, each in spellings that are one under `i;unicode-casemap` over the table for Latin.
-const LETTERS: [&[&str]; 10] = [
+const LETTERS: [&[&str]; 13] = [
     &["é", "É", "e\u{301}", "E\u{301}"],
     &["ñ", "Ñ", "n\u{303}", "N\u{303}"],
     &["ö", "Ö", "o\u{308}", "O\u{308}"],
@@ -15,6 +15,9 @@ const LETTERS: [&[&str]; 10] = [
     &["z", "Z"],
     &["_"],
     &["名"],
+    &["한", "\u{1112}\u{1161}\u{11AB}", "하\u{11AB}"],
+    &["글", "\u{1100}\u{1173}\u{11AF}", "그\u{11AF}"],
+    &["가", "\u{1100}\u{1161}"],
 ];
 
 /// What no valid text has in it, whatever stands before and after: an octet that is never used, more trailing octets than a
