@@ -2,8 +2,9 @@
 """Makes the table that the package ships from the published UnicodeData.txt.
 
 It keeps the lines that say something to the library, a decomposition or another titlecase, and the last line, by which a file
-that was cut off is seen. Of their fields it keeps what the library reads: the code point (0), the decomposition (5) and the
-titlecase (14, or 12 where 14 is empty).
+that was cut off is seen. The two lines of Hangul syllables, the ends of their range, say nothing: the library maps these by rule.
+Of the fields it keeps what the library reads: the code point (0), the decomposition (5) and the titlecase (14, or 12 where 14 is
+empty).
 """
 
 import argparse

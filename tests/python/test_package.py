@@ -91,7 +91,7 @@ class Answers(unittest.TestCase):
         # else the first store that is lent is long enough, and the second is not tried
         self.assertGreater(many.KEY_PER_OCTET_MOST * octets, many.STORE_MOST_AT_FIRST)
         keys = mundeziwa.keys(texts)
-        self.assertGreater(len(keys.octets), 2 * octets)
+        self.assertGreater(len(keys.octets), 3 * octets)
         self.assertEqual(set(keys), {mundeziwa.key(texts[0])})
 
     def test_keys_of_an_iterable(self):

@@ -16,6 +16,7 @@ from mundeziwa.library import lent, library
 COLLATIONS = ("unicode", "ascii", "octet")
 # Spellings that meet and spellings that don't, some of them broken.
 PARTS = ["e", "E", "é", "É", "e\u0301", "E\u0301", "ß", "ss", "SS", "ﬁ", "fi", "Ω", "ω", "\u2126", "ё", "İ", "i", "x" * 40, " "]
+PARTS += ["한", "하\u11ab", "\u1112\u1161\u11ab"]
 BROKEN = [b"\xc3", b"\xff", b"\xed\xa0\x80", b"\xc3\xa9\x80"]
 
 

@@ -11,6 +11,8 @@ from .pieces import Keys
 KEY_PER_OCTET_MOST = 128
 # The longest store that is lent before it is known how long the keys are.
 STORE_MOST_AT_FIRST = 16 << 20
+# The first octets of nearly all Hangul syllables, and of hardly anything else. A syllable has 3 octets, and its key 6 or 9.
+SYLLABLE_LEADS = (b"\xeb", b"\xec", b"\xed")
 REFUSED_ROOM = 8
 
 
@@ -29,18 +31,19 @@ def _zeros(code, count):
     return array(code, [0]) * count
 
 
-def _store_at_first(length):
-    """How long a store is lent first, for texts of so many octets."""
-    most = KEY_PER_OCTET_MOST * length
-    # Keys are seldom twice as long as their texts. Where they are, the call says how long.
-    return most if most <= STORE_MOST_AT_FIRST else 2 * length
+def _store_at_first(octets):
+    """How long a store is lent first, for the octets of all texts."""
+    most = KEY_PER_OCTET_MOST * len(octets)
+    # Keys are seldom twice as long as their texts, but for those of Korean names. Where they are longer, the call says how long.
+    times = 3 if any(map(octets.__contains__, SYLLABLE_LEADS)) else 2
+    return most if most <= STORE_MOST_AT_FIRST else times * len(octets)
 
 
 def prepare_many(collation, texts, table):
     """The keys of texts over what is lent of a table."""
     key_ends, valid = _zeros("Q", len(texts)), bytearray(len(texts))
     slices = (texts.octets, len(texts.octets), *lent(texts.ends), *table)
-    store = bytearray(_store_at_first(len(texts.octets)))
+    store = bytearray(_store_at_first(texts.octets))
     row = answer("mz_prepare_many", 4, collation, *slices, *lent(store), *lent(key_ends), *lent(valid))
     if row[0] == REFUSED_ROOM:
         # The other slices are long enough, so it is the store, and the detail is the length of all keys together.

@@ -63,7 +63,8 @@ class Table:
     """A mapping table that the library has accepted, and the calls over it.
 
     `entries` and `pool` are its numbers, to be read alone, four for each entry: code point, titlecase, start of the decomposition
-    in the pool, and length. `edition` says where they are from. Any number of threads may use one table.
+    in the pool, and length. Hangul syllables have none: they decompose by rule, over every table. `edition` says where the
+    numbers are from. Any number of threads may use one table.
     """
 
     def __init__(self, entries, pool, edition):
@@ -73,7 +74,7 @@ class Table:
         self._slices = (*lent(array("I", self.entries)), *lent(array("I", self.pool)))
         row = answer("mz_check_table", 3, *self._slices)
         if row[0]:
-            raise TableError(*row, f"{edition}: {sentence(*row)}")
+            raise TableError(*row, f"{edition}: {sentence(*row, len(self))}")
 
     @classmethod
     @functools.lru_cache(maxsize=None)
@@ -89,7 +90,7 @@ class Table:
 
     @classmethod
     def empty(cls):
-        """The table with no entries, in which every code point maps to itself."""
+        """The table with no entries, in which every code point but the Hangul syllables maps to itself."""
         return cls((), (), "empty table")
 
     def __len__(self):
