@@ -18,9 +18,9 @@ NASTY = ["ß", "ẞ", "ss", "SS", "ﬁ", "fi", "İ", "ı", "i", "I", "i\u0307", 
 NASTY += ["ϊ\u0301", "a\u0323\u0301", "a\u0301\u0323", "á\u0323", "ạ\u0301", "á", "a", "A", "\u0301", "\u0345", "ᾳ", "αι"]
 NASTY += ["=\u0338", "≠", "´", " ", "\xa0", "\u2003", "\t", "\n", "\x1c", "\x85", "Ａ", "ａ", "１", "1", "²", "µ", "μ"]
 NASTY += ["\u212b", "å", "Å", "\u212a", "k", "ǆ", "ǅ", "DŽ", "한", "\u1112\u1161\u11ab", "하\u11ab", "\u0958", "क\u093c"]
-NASTY += ["が", "か\u3099", "\u034f", "\u200d", "\x00", "’", "ŉ", "ʼn", "ǟ"]
+NASTY += ["が", "か\u3099", "\u034f", "\u200d", "\x00", "’", "ŉ", "ʼn", "ǟ", "하", "\u1112\u1161", "\u1161", "ㅎㅏ", "가", "\u1100"]
 BROKEN = [b"\xc3", b"\xff", b"\xed\xa0\x80", b"\xe2\x82"]
-ORDINARY = "aAeEzZ0-' éÉñÑøØłŁčČ\u0301\u030c\u0323αΑάΆςσΣжЖйЙёЁ\u0306\u0308ế’海한"
+ORDINARY = "aAeEzZ0-' éÉñÑøØłŁčČ\u0301\u030c\u0323αΑάΆςσΣжЖйЙёЁ\u0306\u0308ế’海한하"
 
 
 def fold(text):
@@ -69,7 +69,10 @@ def unchanged():
 def tables():
     """The published table, the empty one, and one that maps a few characters as no edition does."""
     odd = [(0x41, 0x62, 0, 0), (0x61, 0x41, 0, 0), (0xE9, 0x45, 0, 2), (0x301, 0x302, 2, 0)]
-    return [Table.published(), Table.empty(), Table([number for entry in odd for number in entry], [0x65, 0x301], "odd table")]
+    # A jamo with a titlecase has another key than in a syllable, and one that decomposes the same.
+    odd += [(0x1112, 0x68, 2, 0), (0x1161, 0x1161, 2, 1)]
+    numbers = [number for entry in odd for number in entry]
+    return [Table.published(), Table.empty(), Table(numbers, [0x65, 0x301, 0x61], "odd table")]
 
 
 class Lookalikes(unittest.TestCase):
@@ -142,6 +145,28 @@ class OrdinaryCharacters(unittest.TestCase):
         for mark in Characters(Table.published(), "unicode").marks:
             text = "".join(char + mark for char in chars)
             self.assertEqual(unicodedata.normalize("NFKC", text), text)
+        for table, collation in itertools.product(tables(), COLLATIONS):
+            self.check_own_keys(table, collation, chars)
+
+    def test_jamo_are_special_since_a_fold_makes_syllables_of_them(self):
+        syllables = [char for char in unchanged() if char >= "가"]
+        jamo = [unicodedata.normalize("NFD", char) for char in syllables]
+        self.assertEqual(list(map(fold, jamo)), syllables)
+        self.check_own_keys(Table.published(), "unicode", jamo)
+        for table, collation in itertools.product(tables(), COLLATIONS):
+            special = Special(Characters(table, collation))
+            self.assertEqual(special.places([text.encode() for text in jamo]), list(range(len(jamo))))
+            self.assertEqual(special.places([text.encode() for text in syllables]), [])
+
+    def test_syllables_and_jamo_look_alike_where_the_rule_keeps_them_apart(self):
+        first, second = ["한".encode(), b"x"], ["\u1112\u1161\u11ab".encode(), b"x"]
+        published, empty, odd = tables()
+        apart = [([0], [0])]
+        for table in (published, empty):
+            self.assertEqual(find_lookalikes(first, second, table, "unicode"), [])
+            for collation in ("ascii", "octet"):
+                self.assertEqual(find_lookalikes(first, second, table, collation), apart)
+        self.assertEqual(find_lookalikes(first, second, odd, "unicode"), apart)
 
     def test_the_usual_letters_are_ordinary(self):
         special = Special(Characters(Table.published(), "unicode"))

@@ -10,7 +10,7 @@ from mundeziwa import Table
 
 SEED = 18
 PIECES = ["e", "é", "É", "e\u0301", "E\u0301", "ß", "SS", "ss", "ﬁ", "fi", "ı", "i", "I", "İ", "a\u0323\u0301", "a\u0301\u0323"]
-PIECES += [" ", "\u00a0", "한", "ǆ"]
+PIECES += [" ", "\u00a0", "한", "\u1112\u1161\u11ab", "하\u11ab", "하", "ㅎㅏ", "ǆ"]
 OCTETS = [b"\xc3", b"\xff", b"\xed\xa0\x80", b"\xe2\x82", b"\\", b"\t"]
 
 

@@ -10,7 +10,7 @@ from .layout import Section
 from .lookalike import fold
 from .output import write_lines
 from .survey import break_of
-from .text import decoded, spelled, visible
+from .text import decoded, is_joined, spelled, visible
 
 MEET, PART = 0, 1
 
@@ -27,8 +27,8 @@ def _characters(name, collation):
 
 
 def _code_points(octets):
-    """What a part of a key is: letters as they are, marks and what can't be seen by their code points."""
-    seen = [char.isprintable() and unicodedata.category(char)[0] != "M" for char in decoded(octets)]
+    """What a part of a key is: letters as they are, what would be drawn into them and what can't be seen by their code points."""
+    seen = [char.isprintable() and not is_joined(char) for char in decoded(octets)]
     return " ".join(char if is_seen else f"U+{ord(char):04X}" for char, is_seen in zip(decoded(octets), seen))
 
 

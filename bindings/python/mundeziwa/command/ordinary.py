@@ -11,7 +11,9 @@ from unicodedata import combining, normalize
 
 # Where ordinary characters are looked for: ASCII, Latin, marks, Greek and Cyrillic, more Latin and Greek, dashes and quotes.
 BLOCKS = [(0x20, 0x7F), (0xA0, 0x250), (0x300, 0x530), (0x1E00, 0x2000), (0x2010, 0x2020)]
-# Han characters and Hangul syllables: no fold changes one of them, so they are ordinary under every rule.
+# Han characters and Hangul syllables: no fold changes one of them, so they are ordinary under every rule, whatever their keys.
+# Jamo are not: a fold makes syllables of them, which have the same key under i;unicode-casemap alone, and there only where the
+# table gives no jamo a titlecase. So a name with jamo is taken for special, also where one ends the syllable before it.
 UNCHANGED = "\u4e00-\u9fff\uac00-\ud7a3"
 
 _is_broken = re.compile("[\udc80-\udcff]").search

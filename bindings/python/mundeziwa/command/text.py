@@ -3,7 +3,7 @@
 import os
 import unicodedata
 
-# A zero-width letter: the vowels and final consonants of Korean, which are drawn into the syllable before them.
+# The vowels and final consonants of Korean, which are drawn into the syllable that the letter before them begins.
 _JOINED_JAMO = range(0x1160, 0x1200)
 _COLOURS = {"bold": 1, "dim": 2, "red": 31, "green": 32, "yellow": 33}
 
@@ -46,13 +46,18 @@ def visible(name):
     return "\\x20" * before + inner + "\\x20" * (len(shown) - before - len(inner))
 
 
+def is_joined(char):
+    """Whether a character is drawn into the one before it: a mark, or a vowel or final consonant of Korean."""
+    return unicodedata.category(char)[0] == "M" or ord(char) in _JOINED_JAMO
+
+
 def spelled(name):
-    """A name for people, with its marks written out where it isn't composed: it would look like the composed one."""
+    """A name for people, with what is joined in it written out where it isn't composed: it would look like the composed one."""
     text = decoded(name)
     if unicodedata.is_normalized("NFC", text):
         return visible(name)
-    marks = "".join(_escaped(char) if unicodedata.category(char)[0] == "M" else _printed(char) for char in text)
-    return f"{visible(name)} ({marks})"
+    parts = "".join(_escaped(char) if is_joined(char) else _printed(char) for char in text)
+    return f"{visible(name)} ({parts})"
 
 
 def _char_width(char):
