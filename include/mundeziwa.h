@@ -22,7 +22,7 @@
  * These parts, its jamo, are then looked up as any other part is. So a Korean name in syllables has the key of the same name in
  * jamo (unless a table gives a jamo a titlecase, as no edition does), and a caller needs no lines for syllables: UnicodeData.txt
  * has but two, the ends of their range, which say nothing. A table with an entry for one is refused (4), and so is a line with a
- * mapping for one (25).
+ * mapping for one (25). Earlier libraries left syllables whole: keys of texts with syllables that they made must be made again.
  *
  * KEYS. The key of a text stands at the start of the lent key buffer, and the octets after it stay as they were; but a key that
  * is the text itself (i;octet, and an invalid text under i;unicode-casemap) is not copied, and the buffer stays. Over an

@@ -23,6 +23,7 @@ from mundeziwa import library
 
 SOURCE = Path(__file__).parents[2] / "bindings" / "python"
 README = (SOURCE / "README.md").read_text("utf-8")
+INFO = f"mundeziwa-{mundeziwa.__version__}.dist-info"
 CLEAN = {key: value for key, value in os.environ.items() if key not in ("MUNDEZIWA_LIBRARY", "PYTHONPATH")}
 
 
@@ -65,22 +66,22 @@ class Wheel(unittest.TestCase):
         run = self.build(source)
         self.assertEqual(run.stderr, "")
         name = run.stdout.strip()
-        self.assertRegex(name, r"^mundeziwa-0\.1\.0-py3-none-[a-z0-9_]+\.whl$")
+        self.assertRegex(name, rf"^mundeziwa-{re.escape(mundeziwa.__version__)}-py3-none-[a-z0-9_]+\.whl$")
         with zipfile.ZipFile(self.folder / name) as wheel:
             held = {entry: wheel.read(entry) for entry in wheel.namelist()}
         modules = {path.relative_to(SOURCE).as_posix() for path in files() if path.suffix == ".py" and path.parent != SOURCE}
         others = {"mundeziwa/data/EDITION", "mundeziwa/data/UnicodeData-15.0.0.txt", f"mundeziwa/lib/{library.FILE_NAME}"}
-        info = {f"mundeziwa-0.1.0.dist-info/{name}" for name in ("METADATA", "WHEEL", "entry_points.txt", "RECORD")}
+        info = {f"{INFO}/{name}" for name in ("METADATA", "WHEEL", "entry_points.txt", "RECORD")}
         self.assertEqual(set(held), modules | others | info)
         self.assertEqual(held[f"mundeziwa/lib/{library.FILE_NAME}"], Path(library.library()._name).read_bytes())
         self.check_record(held)
-        self.assertIn(f"\nVersion: {mundeziwa.__version__}\n".encode(), held["mundeziwa-0.1.0.dist-info/METADATA"])
+        self.assertIn(f"\nVersion: {mundeziwa.__version__}\n".encode(), held[f"{INFO}/METADATA"])
 
     def check_record(self, held):
         """The RECORD has each file with its length and digest, and itself with neither."""
-        recorded = {row[0]: row[1:] for row in csv.reader(io.StringIO(held["mundeziwa-0.1.0.dist-info/RECORD"].decode()))}
+        recorded = {row[0]: row[1:] for row in csv.reader(io.StringIO(held[f"{INFO}/RECORD"].decode()))}
         self.assertEqual(set(recorded), set(held))
-        self.assertEqual(recorded.pop("mundeziwa-0.1.0.dist-info/RECORD"), ["", ""])
+        self.assertEqual(recorded.pop(f"{INFO}/RECORD"), ["", ""])
         for name, (digest, length) in recorded.items():
             sha256 = base64.urlsafe_b64encode(hashlib.sha256(held[name]).digest()).decode().rstrip("=")
             self.assertEqual((digest, length), (f"sha256={sha256}", str(len(held[name]))), name)

@@ -13,7 +13,7 @@ from .pieces import Keys
 from .report import Duplicates, Group, Report, Row
 from .table import Hit, Table
 
-__version__ = "0.1.0"
+__version__ = "0.2.0"
 __all__ = [
     "Duplicates", "Error", "Group", "Hit", "Keys", "LibraryError", "Refused", "Report", "Row", "Table", "TableError",
     "duplicates", "equal", "find", "key", "keys", "order", "shared",

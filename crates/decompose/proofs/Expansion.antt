@@ -2,43 +2,53 @@
 -- Assumes nothing.
 use mathlib.Core.Path.{_≡_, ap, _∙_}
 use Prim.Native.Nat.{ℕ, suc, _+_}
+use native.Mathlib.Nat.{add-zero}
 use native.Mathlib.Numerals.{add-one}
-use mathlib.Core.List.{List, []}
+use mathlib.Core.List.{List, [], _∷_, append-nil}
 use lib.ListN.{length}
+use Rattle.terms.specs.Lists.{each, total}
 use Rattle.terms.specs.Refusals.{levelsMost}
 use Rattle.table.specs.Mapping.{Mapping}
 use Rattle.utf8.specs.Utf8.{encode, encodes}
 use Rattle.utf8.specs.Promises.{Written}
 use Rattle.decompose.specs.Levels.{full, asks}
 use Rattle.decompose.specs.Steps.{expanded}
-use Rattle.decompose.specs.Promises.{Counted, Filled, TitleCounted, TitleFilled, ExpansionCounted, ExpansionFilled}
+use Rattle.decompose.specs.Promises.{fulls, Counted, Filled, PartsCounted, PartsFilled, ExpansionCounted, ExpansionFilled}
 use Rattle.decompose.specs.declared.Unfolded.{Unfolded}
 use Rattle.decompose.proofs.Walk.{encodes-whole, counted-whole, filled-whole}
-
-module _ (m : Mapping) (x : ℕ) where
-  -- the ask for a titlecase comes to what its unfolding takes
-  pub counted-titlecase : {r : Unfolded} → Counted (full m levelsMost x) (asks m levelsMost x) r
-      → TitleCounted m x (record { octets = r .octets; asks = r .asks + 1 })
-  counted-titlecase {r} w = record { octets = w .octets; asked = add-one (r .asks) ∙ ap suc (w .asked) }
-
-  pub filled-titlecase : {slice : List ℕ} {r : Unfolded} {after : List ℕ}
-      → Filled (full m levelsMost x) (asks m levelsMost x) slice r after
-      → TitleFilled m x slice (record { octets = r .octets; asks = r .asks + 1 }) after
-  filled-titlecase w = record { counted = counted-titlecase (w .counted); written = w .written }
 
 module _ (m : Mapping) (c x : ℕ) (e : m .title c ≡ x) where
   -- the code point becomes the full decomposition of its titlecase
   pub expanded-title : expanded m c ≡ encodes (full m levelsMost x)
   expanded-title = ap (λ y. encodes (full m levelsMost y)) e
 
-  -- for as many asks as that takes, and one for the titlecase
-  pub counted-title : {r : Unfolded} → TitleCounted m x r → ExpansionCounted m c r
-  counted-title w = rw e w
+  -- for one ask more than that takes
+  pub counted-title : {r : Unfolded} → Counted (full m levelsMost x) (asks m levelsMost x) r
+      → ExpansionCounted m c (record { octets = r .octets; asks = r .asks + 1 })
+  counted-title {r} w = rw e (record { octets = w .octets; asked = add-one (r .asks) ∙ ap suc (w .asked) })
 
   -- and these are what was written
-  pub filled-title : {slice : List ℕ} {r : Unfolded} {after : List ℕ} → TitleFilled m x slice r after
+  pub filled-title : {slice : List ℕ} {r : Unfolded} {after : List ℕ}
+      → Filled (full m levelsMost x) (asks m levelsMost x) slice r after
+      → ExpansionFilled m c slice (record { octets = r .octets; asks = r .asks + 1 }) after
+  filled-title w = record { counted = counted-title (w .counted); written = rw e (w .written) }
+
+  -- ---- as the only part
+
+  -- it is one part, that has its octets
+  pub expanded-only : expanded m c ≡ encodes (fulls m levelsMost (x ∷ []))
+  unfolding each
+  expanded-only = rw (append-nil (full m levelsMost x)) expanded-title
+
+  -- and is counted with the ask for it
+  pub counted-only : {r : Unfolded} → PartsCounted m levelsMost (x ∷ []) r → ExpansionCounted m c r
+  unfolding each total
+  counted-only w = rw e (rw (append-nil (full m levelsMost x), add-zero (asks m levelsMost x)) at w)
+
+  pub filled-only : {slice : List ℕ} {r : Unfolded} {after : List ℕ} → PartsFilled m levelsMost (x ∷ []) slice r after
       → ExpansionFilled m c slice r after
-  filled-title w = rw e w
+  unfolding each total
+  filled-only w = rw e (rw (append-nil (full m levelsMost x), add-zero (asks m levelsMost x)) at w)
 
   -- ---- a titlecase with no parts
 
@@ -49,10 +59,9 @@ module _ (m : Mapping) (c x : ℕ) (e : m .title c ≡ x) where
 
     -- for two asks
     pub counted-plain : (k : ℕ) → k ≡ length (encode x) → ExpansionCounted m c (record { octets = k; asks = 2 })
-    counted-plain k h = counted-title (counted-titlecase m x (counted-whole m levelsMost x p k h))
+    counted-plain k h = counted-title (counted-whole m levelsMost x p k h)
 
     -- and is what was written
     pub filled-plain : (slice : List ℕ) (k : ℕ) (after : List ℕ) → Written x slice k after
         → ExpansionFilled m c slice (record { octets = k; asks = 2 }) after
-    filled-plain slice k after w =
-        filled-title (filled-titlecase m x (filled-whole m levelsMost x p slice k after w))
+    filled-plain slice k after w = filled-title (filled-whole m levelsMost x p slice k after w)

@@ -16,8 +16,8 @@ use Rattle.terms.proofs.Lists.{all-at, all-take-more, each-take-more, length-ea
 use Rattle.terms.proofs.Tests.{none-some}
 use Rattle.table.specs.Mapping.{Mapping}
 use Rattle.decompose.specs.Levels.{within, full}
-use Rattle.decompose.specs.Promises.{measured, measuredParts, Split}
-use Rattle.decompose.proofs.Walk.{fulls, within-parts, full-parts, within-none}
+use Rattle.decompose.specs.Promises.{measured, fulls, measuredParts, Split}
+use Rattle.decompose.proofs.Walk.{within-parts, full-parts, within-none}
 
 -- a code point that decomposes is measured by its parts
 pub measured-parts : {m : Mapping} {c : ℕ} {ps : List ℕ} → Split m c ps → (n room : ℕ) → 1 ≤ n

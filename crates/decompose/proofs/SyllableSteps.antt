@@ -25,7 +25,7 @@ use Rattle.decompose.specs.Steps.{expanded, lookups}
 use Rattle.decompose.specs.TableCheck.{tableRefusal}
 use Rattle.decompose.specs.Promises.{jamoLevels, Split}
 use Rattle.decompose.proofs.Levels.{empty-true, full-same, asks-same}
-use Rattle.decompose.proofs.Walk.{fulls, within-parts, full-parts, asks-parts, syllable-split, bounded-unfolds}
+use Rattle.decompose.proofs.Walk.{within-parts, full-parts, asks-parts, syllable-split, bounded-unfolds}
 use Rattle.decompose.proofs.Demand3.{accepted-form, accepted-all}
 
 -- ---- its level

@@ -7,7 +7,7 @@ use mathlib.Core.Option.{Option, none, some}
 use mathlib.Core.List.{List}
 use lib.Dec.{leb}
 use lib.ListN.{length}
-use Rattle.terms.specs.Lists.{all, each, when, over}
+use Rattle.terms.specs.Lists.{all, each, total, when, over}
 use Rattle.terms.specs.Refusals.{levelsMost, fullMost}
 use Rattle.table.specs.Mapping.{Mapping}
 use Rattle.utf8.specs.Utf8.{encodes}
@@ -21,10 +21,13 @@ use Rattle.decompose.specs.declared.Unfolded.{Unfolded}
 abbrev pub measured : Mapping → ℕ → ℕ → ℕ → Option ℕ
 measured m n room c = when (within m n c && leb (length (full m n c)) room) (length (full m n c))
 
+-- the full decompositions of parts, one after another
+abbrev pub fulls : Mapping → ℕ → List ℕ → List ℕ
+fulls m n ps = each (λ p. full m n p) ps
+
 -- how many code points parts unfold into, if each is within n levels and they are together at most `room`
 abbrev pub measuredParts : Mapping → ℕ → ℕ → List ℕ → Option ℕ
-measuredParts m n room ps =
-    when (all (λ p. within m n p) ps && leb (length (each (λ p. full m n p) ps)) room) (length (each (λ p. full m n p) ps))
+measuredParts m n room ps = when (all (λ p. within m n p) ps && leb (length (fulls m n ps)) room) (length (fulls m n ps))
 
 -- the larger of two measurements, if both fit
 abbrev pub larger : Option ℕ → Option ℕ → Option ℕ
@@ -51,11 +54,11 @@ pub record Split (m : Mapping) (c : ℕ) (ps : List ℕ) : Type 0 where
   pub parts : ps ≡ m .parts c
   pub some : 0 < length ps
 
--- a code point unfolds within n of the 8 levels into at most 32 code points: what unfolding it asks for
-pub record Bounded (m : Mapping) (n c : ℕ) : Type 0 where
+-- parts unfold within n of the 8 levels, together into at most 32 code points: what unfolding them asks for
+pub record BoundedParts (m : Mapping) (n : ℕ) (ps : List ℕ) : Type 0 where
   pub levels : n ≤ levelsMost
-  pub level : within m n c ≡ true
-  pub size : length (full m n c) ≤ fullMost
+  pub level : all (λ p. within m n p) ps ≡ true
+  pub size : length (fulls m n ps) ≤ fullMost
 
 -- code points were unfolded: the octets of their encoding, and the asks
 pub record Counted (cs : List ℕ) (k : ℕ) (r : Unfolded) : Type 0 where
@@ -67,19 +70,12 @@ pub record Filled (cs : List ℕ) (k : ℕ) (slice : List ℕ) (r : Unfolded) (a
   pub counted : Counted cs k r
   pub written : after ≡ over (encodes cs) slice
 
--- the full decomposition of a code point was counted, and written
-abbrev pub FullCounted : Mapping → ℕ → ℕ → Unfolded → Type 0
-FullCounted m n c r = Counted (full m n c) (asks m n c) r
+-- the full decompositions of parts were counted, with the ask that led to them, and written
+abbrev pub PartsCounted : Mapping → ℕ → List ℕ → Unfolded → Type 0
+PartsCounted m n ps r = Counted (fulls m n ps) (suc (total (λ p. asks m n p) ps)) r
 
-abbrev pub FullFilled : Mapping → ℕ → ℕ → List ℕ → Unfolded → List ℕ → Type 0
-FullFilled m n c slice r after = Filled (full m n c) (asks m n c) slice r after
-
--- and was, with the ask for the titlecase that led to it
-abbrev pub TitleCounted : Mapping → ℕ → Unfolded → Type 0
-TitleCounted m x r = Counted (full m levelsMost x) (suc (asks m levelsMost x)) r
-
-abbrev pub TitleFilled : Mapping → ℕ → List ℕ → Unfolded → List ℕ → Type 0
-TitleFilled m x slice r after = Filled (full m levelsMost x) (suc (asks m levelsMost x)) slice r after
+abbrev pub PartsFilled : Mapping → ℕ → List ℕ → List ℕ → Unfolded → List ℕ → Type 0
+PartsFilled m n ps slice r after = Filled (fulls m n ps) (suc (total (λ p. asks m n p) ps)) slice r after
 
 -- the expansion of a code point by the published steps was counted, and written
 abbrev pub ExpansionCounted : Mapping → ℕ → Unfolded → Type 0

@@ -1,6 +1,7 @@
 // Check 7 (document 01, "Refusal numbers"; document 02, request 4): how deep and how large the code point of each entry unfolds,
 // and each syllable.
 use crate::Measurement;
+use crate::PART_LEVELS;
 use table::layout;
 use terms::Check;
 use terms::CodePoint;
@@ -13,9 +14,6 @@ ghost use Rattle.terms.specs.Refusals.{answer, checkOutcome};
 ghost use Rattle.table.specs.Table.{table, refusedAt, formRefusal, mappingOf};
 ghost use Rattle.decompose.specs.TableCheck.{faultySyllable, levelFault};
 ghost use Rattle.decompose.specs.Promises.{measuredParts, measuredSize, largest};
-
-// The most levels of a part in an accepted table: what it is a part of has one more.
-const PART_LEVELS: usize = terms::LEVELS_MOST - 1;
 
 // Whether 7 refuses a table of the form.
 pub fn check_levels(entries: &[u32], pool: &[u32]) -> Check
@@ -122,11 +120,14 @@ fn measure(
     ensures { λ r. ⌜ measuredSize r ≡ measuredParts
         (mappingOf (table (now (entries .entry)) (now (pool .entry)))) «levels_left» room (now (parts .entry)) ⌝ }
 {
+    let mut jamo = [0u32; 3];
     let mut total = 0;
     let mut i = 0;
     while i < parts.len() {
         let part = CodePoint(parts[i]);
-        let jamo = hangul::jamo_of(part);
+        if hangul::is_syllable(part) {
+            jamo = hangul::jamo_of(part);
+        }
         let inner = table::parts_of(entries, pool, &jamo, part);
         // Most parts are whole, and a call costs more than counting one.
         if inner.len() == 0 {

@@ -17,16 +17,18 @@ ghost use mathlib.Core.Option.{none, some};
 ghost use Prim.Native.Nat.{_≤_};
 ghost use lib.ListN.{length};
 ghost use Rattle.terms.specs.CodePoints.{scalar};
-ghost use Rattle.terms.specs.Refusals.{levelsMost, checkOutcome};
+ghost use Rattle.terms.specs.Lists.{all};
+ghost use Rattle.terms.specs.Refusals.{checkOutcome};
 ghost use Rattle.utf8.specs.Utf8.{encodes};
-ghost use Rattle.hangul.specs.Hangul.{syllable};
 ghost use Rattle.table.specs.Layout.{titleAt};
 ghost use Rattle.table.specs.Table.{table, formRefusal, entryOf, entryParts, mappingOf};
-ghost use Rattle.decompose.specs.Levels.{full};
 ghost use Rattle.decompose.specs.Steps.{expanded};
 ghost use Rattle.decompose.specs.TableCheck.{tableRefusal, tableAnswer};
-ghost use Rattle.decompose.specs.Promises.{Split, Bounded, FullCounted, FullFilled, TitleCounted, TitleFilled};
-ghost use Rattle.decompose.specs.Promises.{ExpansionCounted, ExpansionFilled};
+ghost use Rattle.decompose.specs.Promises.{fulls, BoundedParts, PartsCounted, PartsFilled, ExpansionCounted};
+ghost use Rattle.decompose.specs.Promises.{ExpansionFilled};
+
+// The most levels of a part in an accepted table: what it is a part of has one more.
+const PART_LEVELS: usize = terms::LEVELS_MOST - 1;
 
 // How many code points a code point unfolds into.
 pub enum Measurement {
@@ -59,7 +61,12 @@ pub fn size_expansion(c: CodePoint, entries: &[u32], pool: &[u32]) -> Unfolded
 {
     let Place::At(i) = table::find_entry(entries, c) else {
         if hangul::is_syllable(c) {
-            return size_syllable(c, entries, pool);
+            let only = [c.0];
+            let unfolded = size_unfolded(terms::LEVELS_MOST, &only, entries, pool);
+            return Unfolded {
+                octets: unfolded.octets,
+                asks: unfolded.asks,
+            };
         }
         // Any other code point without an entry maps to itself: the two asks are known without a second search.
         return Unfolded {
@@ -71,19 +78,25 @@ pub fn size_expansion(c: CodePoint, entries: &[u32], pool: &[u32]) -> Unfolded
     let parts = title_parts(c, i, entries, pool);
     if parts.len() == 0 {
         if hangul::is_syllable(title) {
-            return size_syllable(title, entries, pool);
+            let only = [title.0];
+            let unfolded = size_unfolded(terms::LEVELS_MOST, &only, entries, pool);
+            return Unfolded {
+                octets: unfolded.octets,
+                asks: unfolded.asks,
+            };
         }
         let octets = utf8::octet_count(title);
         return Unfolded { octets, asks: 2 };
     }
-    let unfolded = size_unfolded(terms::LEVELS_MOST, title, parts, entries, pool);
+    let unfolded = size_unfolded(PART_LEVELS, parts, entries, pool);
     Unfolded {
         octets: unfolded.octets,
         asks: unfolded.asks + 1,
     }
 }
 
-// Writes a code point's expansion at the start of a slice that has room for it.
+// Writes a code point's expansion at the start of a slice that has room for it. What unfolding came to is answered field by field,
+// so that the compiler keeps it in registers.
 pub fn write_expansion(c: CodePoint, entries: &[u32], pool: &[u32], out: &mut [u8]) -> Unfolded
     requires { ⌜ tableRefusal (table (now entries) (now pool)) ≡ none ⌝ }
     requires { ⌜ scalar (c .0) ≡ true ⌝ }
@@ -93,7 +106,12 @@ pub fn write_expansion(c: CodePoint, entries: &[u32], pool: &[u32], out: &mut [u
 {
     let Place::At(i) = table::find_entry(entries, c) else {
         if hangul::is_syllable(c) {
-            return write_syllable(c, entries, pool, out);
+            let only = [c.0];
+            let unfolded = write_unfolded(terms::LEVELS_MOST, &only, entries, pool, out);
+            return Unfolded {
+                octets: unfolded.octets,
+                asks: unfolded.asks,
+            };
         }
         let octets = utf8::write_character(c, out);
         return Unfolded { octets, asks: 2 };
@@ -102,45 +120,17 @@ pub fn write_expansion(c: CodePoint, entries: &[u32], pool: &[u32], out: &mut [u
     let parts = title_parts(c, i, entries, pool);
     if parts.len() == 0 {
         if hangul::is_syllable(title) {
-            return write_syllable(title, entries, pool, out);
+            let only = [title.0];
+            let unfolded = write_unfolded(terms::LEVELS_MOST, &only, entries, pool, out);
+            return Unfolded {
+                octets: unfolded.octets,
+                asks: unfolded.asks,
+            };
         }
         let octets = utf8::write_character(title, out);
         return Unfolded { octets, asks: 2 };
     }
-    let unfolded = write_unfolded(terms::LEVELS_MOST, title, parts, entries, pool, out);
-    Unfolded {
-        octets: unfolded.octets,
-        asks: unfolded.asks + 1,
-    }
-}
-
-// The octets of the expansion of a code point whose titlecase is this syllable, and the lookups for it.
-fn size_syllable(c: CodePoint, entries: &[u32], pool: &[u32]) -> Unfolded
-    requires { ⌜ tableRefusal (table (now entries) (now pool)) ≡ none ⌝ }
-    requires { ⌜ syllable (c .0) ≡ true ⌝ }
-    ensures { λ r. ⌜ TitleCounted (mappingOf (table (now (entries .entry)) (now (pool .entry)))) (c .0) r ⌝ }
-{
-    let jamo = hangul::jamo_of(c);
-    let parts = hangul::parts_among(c, &jamo);
-    let unfolded = size_unfolded(terms::LEVELS_MOST, c, parts, entries, pool);
-    Unfolded {
-        octets: unfolded.octets,
-        asks: unfolded.asks + 1,
-    }
-}
-
-// Writes that expansion at the start of a slice that has room for it. Called from two places, it is compiled apart, and what is
-// in front of it, the usual way of a letter, is inlined.
-fn write_syllable(c: CodePoint, entries: &[u32], pool: &[u32], out: &mut [u8]) -> Unfolded
-    requires { ⌜ tableRefusal (table (now entries) (now pool)) ≡ none ⌝ }
-    requires { ⌜ syllable (c .0) ≡ true ⌝ }
-    requires { ⌜ length (encodes (full (mappingOf (table (now entries) (now pool))) levelsMost (c .0))) ≤ length (now out) ⌝ }
-    ensures { λ r. ⌜ TitleFilled (mappingOf (table (now (entries .entry)) (now (pool .entry)))) (c .0)
-        (now (out .entry)) r (now (out .exit)) ⌝ }
-{
-    let jamo = hangul::jamo_of(c);
-    let parts = hangul::parts_among(c, &jamo);
-    let unfolded = write_unfolded(terms::LEVELS_MOST, c, parts, entries, pool, out);
+    let unfolded = write_unfolded(PART_LEVELS, parts, entries, pool, out);
     Unfolded {
         octets: unfolded.octets,
         asks: unfolded.asks + 1,
@@ -161,32 +151,30 @@ fn title_parts<'a>(c: CodePoint, i: usize, entries: &[u32], pool: &'a [u32]) -> 
     table::entry_parts(entries, pool, title)
 }
 
-// The octets of the full decomposition of a code point that has these parts, and the asks of its unfolding.
-fn size_unfolded(
-    levels_left: usize,
-    c: CodePoint,
-    parts: &[u32],
-    entries: &[u32],
-    pool: &[u32],
-) -> Unfolded
+// The octets of the full decompositions of parts, and the asks: one for the parts, or for the titlecase that is the only one, and
+// those of their unfolding.
+fn size_unfolded(levels_left: usize, parts: &[u32], entries: &[u32], pool: &[u32]) -> Unfolded
     requires { ⌜ formRefusal (table (now entries) (now pool)) ≡ none ⌝ }
-    requires { ⌜ Split (mappingOf (table (now entries) (now pool))) (c .0) (now parts) ⌝ }
-    requires { ⌜ Bounded (mappingOf (table (now entries) (now pool))) «levels_left» (c .0) ⌝ }
-    ensures { λ r. ⌜ FullCounted (mappingOf (table (now (entries .entry)) (now (pool .entry)))) «levels_left» (c .0) r ⌝ }
+    requires { ⌜ BoundedParts (mappingOf (table (now entries) (now pool))) «levels_left» (now parts) ⌝ }
+    ensures { λ r. ⌜ PartsCounted (mappingOf (table (now (entries .entry)) (now (pool .entry)))) «levels_left»
+        (now (parts .entry)) r ⌝ }
 {
+    let mut jamo = [0u32; 3];
     let mut octets = 0;
     let mut asked: u64 = 1;
     let mut i = 0;
     while i < parts.len() {
         let part = CodePoint(parts[i]);
-        let jamo = hangul::jamo_of(part);
+        if hangul::is_syllable(part) {
+            jamo = hangul::jamo_of(part);
+        }
         let inner = table::parts_of(entries, pool, &jamo, part);
         // Most parts are whole, and a call costs more than counting one.
         if inner.len() == 0 {
             octets += utf8::octet_count(part);
             asked += 1;
         } else {
-            let sized = size_unfolded(levels_left - 1, part, inner, entries, pool);
+            let sized = size_unfolded(levels_left - 1, inner, entries, pool);
             octets += sized.octets;
             asked += sized.asks;
         }
@@ -198,29 +186,31 @@ fn size_unfolded(
     }
 }
 
-// Writes the full decomposition of a code point that has these parts, at the start of a slice that has room for it.
+// Writes the full decompositions of parts, one after another, at the start of a slice that has room for them.
 fn write_unfolded(
     levels_left: usize,
-    c: CodePoint,
     parts: &[u32],
     entries: &[u32],
     pool: &[u32],
     out: &mut [u8],
 ) -> Unfolded
     requires { ⌜ formRefusal (table (now entries) (now pool)) ≡ none ⌝ }
-    requires { ⌜ Split (mappingOf (table (now entries) (now pool))) (c .0) (now parts) ⌝ }
-    requires { ⌜ scalar (c .0) ≡ true ⌝ }
-    requires { ⌜ Bounded (mappingOf (table (now entries) (now pool))) «levels_left» (c .0) ⌝ }
-    requires { ⌜ length (encodes (full (mappingOf (table (now entries) (now pool))) «levels_left» (c .0))) ≤ length (now out) ⌝ }
-    ensures { λ r. ⌜ FullFilled (mappingOf (table (now (entries .entry)) (now (pool .entry)))) «levels_left» (c .0)
-        (now (out .entry)) r (now (out .exit)) ⌝ }
+    requires { ⌜ all scalar (now parts) ≡ true ⌝ }
+    requires { ⌜ BoundedParts (mappingOf (table (now entries) (now pool))) «levels_left» (now parts) ⌝ }
+    requires { ⌜ length (encodes (fulls (mappingOf (table (now entries) (now pool))) «levels_left» (now parts)))
+        ≤ length (now out) ⌝ }
+    ensures { λ r. ⌜ PartsFilled (mappingOf (table (now (entries .entry)) (now (pool .entry)))) «levels_left»
+        (now (parts .entry)) (now (out .entry)) r (now (out .exit)) ⌝ }
 {
+    let mut jamo = [0u32; 3];
     let mut at = 0;
     let mut asks: u64 = 1;
     let mut i = 0;
     while i < parts.len() {
         let part = CodePoint(parts[i]);
-        let jamo = hangul::jamo_of(part);
+        if hangul::is_syllable(part) {
+            jamo = hangul::jamo_of(part);
+        }
         let inner = table::parts_of(entries, pool, &jamo, part);
         // Most parts are whole, and a call costs more than writing one.
         if inner.len() == 0 {
@@ -228,14 +218,7 @@ fn write_unfolded(
             at += octets;
             asks += 1;
         } else {
-            let written = write_unfolded(
-                levels_left - 1,
-                part,
-                inner,
-                entries,
-                pool,
-                &mut out[at..],
-            );
+            let written = write_unfolded(levels_left - 1, inner, entries, pool, &mut out[at..]);
             at += written.octets;
             asks += written.asks;
         }

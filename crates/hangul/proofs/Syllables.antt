@@ -8,8 +8,8 @@ use native.Mathlib.Omega.{arith}
 use mathlib.Core.Bool.{Bool, true, false, cond, _&&_}
 use mathlib.Core.List.{List, [], _∷_}
 use lib.Dec.{leb, ltb, eqb}
-use lib.ListN.{length}
 use borrow.Author.Tests.{leb-true, ltb-true, le-leb, lt-leb, lt-ltb, le-ltb, eq-eqb, ne-eqb}
+use lib.ListN.{length}
 use Rattle.terms.specs.CodePoints.{scalar}
 use Rattle.terms.specs.Lists.{all}
 use Rattle.terms.proofs.Lists.{all-mono}
@@ -46,12 +46,6 @@ pub syllable-within : (c : ℕ) → sBase ≤ c → c < sBase + sCount → sylla
 unfolding syllable
 syllable-within c l m = rw (le-leb sBase c l, lt-ltb c (sBase + sCount) m)
 
--- it is scalar
-pub syllable-scalar : (c : ℕ) → syllable c ≡ true → scalar c ≡ true
-syllable-scalar c is =
-    let h = syllable-bounds c is in
-    rw (le-leb c 0x10FFFF (omega arith), lt-leb 0xD800 c (omega arith))
-
 -- ---- parts
 
 -- with no trailing consonant
@@ -67,29 +61,10 @@ pub parts-three : (c : ℕ) → ((c - sBase) % tCount ≡ 0 → ⊥)
 unfolding syllableParts
 parts-three c ne = rw (ne-eqb ((c - sBase) % tCount) 0 ne)
 
--- the three jamo of a syllable
-pub jamoOf-syllable : (c : ℕ) → syllable c ≡ true
-    → jamoOf c ≡ (lBase + (c - sBase) / nCount) ∷ (vBase + (c - sBase) % nCount / tCount) ∷ (tBase + (c - sBase) % tCount) ∷ []
-unfolding jamoOf
-jamoOf-syllable c e = rw e
-
--- and of another code point
-pub jamoOf-other : (c : ℕ) → syllable c ≡ false → jamoOf c ≡ 0 ∷ 0 ∷ 0 ∷ []
-unfolding jamoOf
-jamoOf-other c e = rw e
-
--- they are three numbers either way
+-- its jamo are told by three numbers
 pub length-jamoOf : (c : ℕ) → 3 ≡ length (jamoOf c)
 unfolding jamoOf
-length-jamoOf c = go (syllable c)
-  where
-    go : (b : Bool)
-        → 3
-        ≡ length (cond b
-        ((lBase + (c - sBase) / nCount) ∷ (vBase + (c - sBase) % nCount / tCount) ∷ (tBase + (c - sBase) % tCount) ∷ [])
-        (0 ∷ 0 ∷ 0 ∷ []))
-    go true = refl
-    go false = refl
+length-jamoOf c = refl
 
 -- the jamo of a syllable are in U+1100 to U+11C2
 pub parts-jamo : (c : ℕ) → syllable c ≡ true → all (λ j. leb 0x1100 j && leb j 0x11C2) (syllableParts c) ≡ true

@@ -38,13 +38,11 @@ pub fn is_syllable(c: CodePoint) -> bool
     c.0 - S_BASE < S_COUNT
 }
 
-// The jamo of a syllable, the third being T_BASE where it has no trailing consonant; three zeros of any other code point.
+// The jamo of a syllable, the third being T_BASE where it has no trailing consonant.
 pub fn jamo_of(c: CodePoint) -> [u32; 3]
+    requires { ⌜ syllable (c .0) ≡ true ⌝ }
     ensures { λ r. ⌜ r ≡ jamoOf (c .0) ⌝ }
 {
-    if !is_syllable(c) {
-        return [0, 0, 0];
-    }
     let s = c.0 - S_BASE;
     let leading = L_BASE + s / N_COUNT;
     let vowel = V_BASE + s % N_COUNT / T_COUNT;

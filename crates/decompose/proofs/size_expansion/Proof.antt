@@ -2,6 +2,7 @@
 -- entries say no parts is a syllable or stays as it is, for two asks; any other unfolds, since every code point does over an
 -- accepted table.
 -- Assumes nothing.
+use Prim.Native.Nat.{ℕ}
 use native.Mathlib.Omega.{arith}
 use mathlib.Core.Path.{_≡_, sym, ap, _∙_}
 use mathlib.Core.Option.{none, some}
@@ -10,19 +11,23 @@ use Rattle.terms.specs.Refusals.{levelsMost}
 use Rattle.table.specs.Table.{Table, table, formRefusal, entryOf, titleOf, entryParts, mappingOf}
 use Rattle.table.specs.Promises.{placeFound}
 use Rattle.table.proofs.Form.{formed-ascending, entryOf-some, titleOf-none, titleOf-some, partsOf-none}
-use Rattle.decompose.specs.Promises.{Bounded}
-use Rattle.decompose.proofs.Walk.{entry-split, entry-none, bounded-unfolds, bounded-asks}
-use Rattle.decompose.proofs.Expansion.{counted-titlecase, counted-title, counted-plain}
+use Rattle.decompose.specs.Promises.{Split}
+use Rattle.decompose.proofs.Walk.{Bounded, entry-split, entry-none, bounded-unfolds, bounded-one, bounded-asks}
+use Rattle.decompose.proofs.Walk.{bounded-parts, counted-parts}
+use Rattle.decompose.proofs.Expansion.{counted-title, counted-only, counted-plain}
 use Rattle.decompose.proofs.Demand3.{accepted-form, accepted-all}
 use Rattle.decompose.proofs.size_expansion.Statement.{statement}
 use Rattle.decompose.proofs.size_expansion.Tie as tie
 
--- at the function's entry: the table, and its form
+-- at the function's entry: the table, its form, and that every code point unfolds
 abbrev lent : tie.Start → Table
 lent s = table (s .args .entries .now) (s .args .pool .now)
 
 form : (s : tie.Start) → formRefusal (lent s) ≡ none
 form s = accepted-form (lent s) (s .pre)
+
+unfolding-of : (s : tie.Start) (x : ℕ) → Bounded (mappingOf (lent s)) levelsMost x
+unfolding-of s x = bounded-unfolds (mappingOf (lent s)) x (accepted-all (lent s) (s .pre) x)
 
 -- where no entry was found: the function's entry, and that there is none
 abbrev start-none : tie.After-enum-told → tie.Start
@@ -46,9 +51,7 @@ title c =
     titleOf-some (lent s .entries) (s .args .c .0) _ (found (c .before .before)) ∙ sym (c .title-at .ensures)
 
 bounded : (c : tie.After-title-at) → Bounded (mappingOf (lent (start c))) levelsMost (c .title-at .result .0)
-bounded c =
-    let s = start c in
-    bounded-unfolds (mappingOf (lent s)) (c .title-at .result .0) (accepted-all (lent s) (s .pre) (c .title-at .result .0))
+bounded c = unfolding-of (start c) (c .title-at .result .0)
 
 -- and where its parts were looked for: what the entries say
 parts : (c : tie.After-title-parts)
@@ -68,18 +71,21 @@ enum-told c = search needs
 is-syllable-requires : tie.Need-is-syllable-requires
 is-syllable-requires c κs = search needs
 
--- a syllable
-size-syllable-requires : tie.Need-size-syllable-requires
-size-syllable-requires c κs =
-    let looked = c .before in
-    (start-none (looked .before) .pre, sym (looked .is-syllable .ensures) ∙ c .if1 .taken)
+slice-aggregate-size-unfolded : tie.Need-slice-aggregate-size-unfolded
+slice-aggregate-size-unfolded c = search needs
+
+-- a syllable is the only part, and unfolds
+size-unfolded-requires : tie.Need-size-unfolded-requires
+size-unfolded-requires c κs =
+    let s = start-none (c .before .before .before) in
+    (form s, bounded-one (mappingOf (lent s)) levelsMost (s .args .c .0) (unfolding-of s (s .args .c .0)))
 
 returns : tie.Need-returns
 returns c =
-    let none = c .before .before .before in
+    let none = c .before .before .before .before in
     let s = start-none none in
     let x = s .args .c .0 in
-    counted-title (mappingOf (lent s)) x x (titleOf-none (lent s .entries) x (missing none)) (c .size-syllable .ensures)
+    counted-only (mappingOf (lent s)) x x (titleOf-none (lent s .entries) x (missing none)) (c .size-unfolded .ensures)
 
 octet-count-requires : tie.Need-octet-count-requires
 octet-count-requires c κs = search needs
@@ -106,17 +112,21 @@ title-parts-requires c κs = (form (start c), found (c .before .before))
 is-syllable-requires-2 : tie.Need-is-syllable-requires-2
 is-syllable-requires-2 c κs = search needs
 
+slice-aggregate-size-unfolded-2 : tie.Need-slice-aggregate-size-unfolded-2
+slice-aggregate-size-unfolded-2 c = search needs
+
 -- a titlecase that is a syllable
-size-syllable-requires-2 : tie.Need-size-syllable-requires-2
-size-syllable-requires-2 c κs =
-    let looked = c .before in
-    (start (looked .before .before .before) .pre, sym (looked .is-syllable2 .ensures) ∙ c .if3 .taken)
+size-unfolded-requires-2 : tie.Need-size-unfolded-requires-2
+size-unfolded-requires-2 c κs =
+    let read = c .before .before .before .before .before in
+    let s = start read in
+    (form s, bounded-one (mappingOf (lent s)) levelsMost (read .title-at .result .0) (bounded read))
 
 returns-3 : tie.Need-returns-3
 returns-3 c =
-    let read = c .before .before .before .before .before in
-    counted-title (mappingOf (lent (start read))) (start read .args .c .0) (read .title-at .result .0) (title read)
-    (c .size-syllable2 .ensures)
+    let read = c .before .before .before .before .before .before in
+    counted-only (mappingOf (lent (start read))) (start read .args .c .0) (read .title-at .result .0) (title read)
+    (c .size-unfolded2 .ensures)
 
 octet-count-requires-2 : tie.Need-octet-count-requires-2
 octet-count-requires-2 c κs = search needs
@@ -135,17 +145,27 @@ returns-4 c =
     (c .octet-count2 .result) (c .octet-count2 .ensures)
 
 -- its titlecase has these parts, and unfolds
-size-unfolded-requires : tie.Need-size-unfolded-requires
-size-unfolded-requires c κs =
+split : (c : tie.Else2) → let read = c .before .before in
+    Split (mappingOf (lent (start read))) (read .title-at .result .0) (c .before .title-parts .result .now)
+split c =
+    let s = start (c .before .before) in
+    entry-split (lent s) (form s) (parts (c .before)) (c .if2 .left)
+
+size-unfolded-requires-3 : tie.Need-size-unfolded-requires-3
+size-unfolded-requires-3 c κs =
     let read = c .before .before in
-    let s = start read in
-    (form s, (entry-split (lent s) (form s) (parts (c .before)) (c .if2 .left), bounded read))
+    (form (start read), bounded-parts (bounded read) (split c))
 
 -- for few asks
-add-t15 : tie.Need-add-t15
-add-t15 c =
+add-t23 : tie.Need-add-t23
+add-t23 c =
     let called = c .before in
-    omega (arith, called .size-unfolded .ensures .asked, bounded-asks (bounded (called .before .before .before)))
+    let parted = called .before in
+    omega (
+      arith,
+      called .size-unfolded3 .ensures .asked,
+      bounded-asks (bounded-parts (bounded (parted .before .before)) (split parted)),
+    )
 
 -- an entry
 returns-5 : tie.Need-returns-5
@@ -154,7 +174,8 @@ returns-5 c =
     let read = called .before .before .before in
     let m = mappingOf (lent (start read)) in
     let x = read .title-at .result .0 in
-    counted-title m (start read .args .c .0) x (title read) (counted-titlecase m x (called .size-unfolded .ensures))
+    counted-title m (start read .args .c .0) x (title read)
+    (counted-parts (bounded read) (split (called .before)) (called .size-unfolded3 .ensures))
 
 pub size-expansion-spec : {M : Type 1} → statement M
 size-expansion-spec =
@@ -164,17 +185,19 @@ size-expansion-spec =
     enum-known-i
     enum-told
     is-syllable-requires
-    size-syllable-requires
+    slice-aggregate-size-unfolded
+    size-unfolded-requires
     returns
     octet-count-requires
     returns-2
     title-at-requires
     title-parts-requires
     is-syllable-requires-2
-    size-syllable-requires-2
+    slice-aggregate-size-unfolded-2
+    size-unfolded-requires-2
     returns-3
     octet-count-requires-2
     returns-4
-    size-unfolded-requires
-    add-t15
+    size-unfolded-requires-3
+    add-t23
     returns-5)

@@ -2,31 +2,39 @@
 -- entries say no parts is a syllable or stays as it is, for two asks; any other unfolds, since every code point does over an
 -- accepted table.
 -- Assumes nothing.
+use Prim.Native.Nat.{ℕ}
 use native.Mathlib.Omega.{arith}
-use mathlib.Core.Path.{_≡_, sym, ap, _∙_}
+use mathlib.Core.Path.{_≡_, refl, sym, ap, _∙_}
 use mathlib.Core.Bool.{true}
 use mathlib.Core.Option.{none, some}
 use mathlib.Core.List.{[]}
 use borrow.Author.Needs.{needs}
 use Rattle.terms.specs.CodePoints.{scalar}
 use Rattle.terms.specs.Refusals.{levelsMost}
+use Rattle.terms.proofs.Lists.{all-cons}
 use Rattle.table.specs.Table.{Table, table, formRefusal, entryOf, titleOf, entryParts, partsOf, mappingOf}
 use Rattle.table.specs.Promises.{placeFound}
-use Rattle.table.proofs.Form.{formed-ascending, formed-title-scalar, entryOf-some, titleOf-none, titleOf-some, partsOf-none}
+use Rattle.table.proofs.Form.{formed-ascending, formed-title-scalar, formed-parts-scalar, entryOf-some, titleOf-none}
+use Rattle.table.proofs.Form.{titleOf-some, partsOf-none}
 use Rattle.utf8.proofs.Encode.{scalar-most}
-use Rattle.decompose.specs.Promises.{Bounded}
-use Rattle.decompose.proofs.Walk.{entry-split, entry-none, bounded-unfolds, bounded-asks}
-use Rattle.decompose.proofs.Expansion.{expanded-title, filled-titlecase, filled-title, expanded-plain, filled-plain}
+use Rattle.decompose.specs.Promises.{Split}
+use Rattle.decompose.proofs.Walk.{Bounded, entry-split, entry-none, full-parts, bounded-unfolds, bounded-one}
+use Rattle.decompose.proofs.Walk.{bounded-asks, bounded-levels, bounded-parts, filled-parts}
+use Rattle.decompose.proofs.Expansion.{expanded-title, filled-title, expanded-only, filled-only, expanded-plain}
+use Rattle.decompose.proofs.Expansion.{filled-plain}
 use Rattle.decompose.proofs.Demand3.{accepted-form, accepted-all}
 use Rattle.decompose.proofs.write_expansion.Statement.{statement}
 use Rattle.decompose.proofs.write_expansion.Tie as tie
 
--- at the function's entry: the table, and its form
+-- at the function's entry: the table, its form, and that every code point unfolds
 abbrev lent : tie.Start → Table
 lent s = table (s .args .entries .now) (s .args .pool .now)
 
 form : (s : tie.Start) → formRefusal (lent s) ≡ none
 form s = accepted-form (lent s) (s .pre .0)
+
+unfolding-of : (s : tie.Start) (x : ℕ) → Bounded (mappingOf (lent s)) levelsMost x
+unfolding-of s x = bounded-unfolds (mappingOf (lent s)) x (accepted-all (lent s) (s .pre .0) x)
 
 -- where no entry was found: the function's entry, that there is none, and that the code point is its own titlecase; where it is
 -- no syllable, it has no parts
@@ -66,9 +74,7 @@ scalar-title c =
     sym (ap scalar (title c)) ∙ formed-title-scalar (lent s) (form s) (s .args .c .0) (s .pre .1 .0)
 
 bounded : (c : tie.After-title-at) → Bounded (mappingOf (lent (start c))) levelsMost (c .title-at .result .0)
-bounded c =
-    let s = start c in
-    bounded-unfolds (mappingOf (lent s)) (c .title-at .result .0) (accepted-all (lent s) (s .pre .0) (c .title-at .result .0))
+bounded c = unfolding-of (start c) (c .title-at .result .0)
 
 -- where its parts were looked for: what the entries say; and where there are none, and it is no syllable
 parts : (c : tie.After-title-parts)
@@ -96,14 +102,19 @@ enum-told c = search needs
 is-syllable-requires : tie.Need-is-syllable-requires
 is-syllable-requires c κs = search needs
 
--- a syllable, and room for its octets
-write-syllable-requires : tie.Need-write-syllable-requires
-write-syllable-requires c κs =
-    let looked = c .before .before in
-    let none = looked .before in
+slice-aggregate-write-unfolded : tie.Need-slice-aggregate-write-unfolded
+slice-aggregate-write-unfolded c = search needs
+
+-- a syllable is the only part, scalar, and unfolds; there is room for its octets
+write-unfolded-requires : tie.Need-write-unfolded-requires
+write-unfolded-requires c κs =
+    let none = c .before .before .before .before in
     let s = start-none none in
-    let octets = expanded-title (mappingOf (lent s)) (s .args .c .0) (s .args .c .0) (own none) in
-    (s .pre .0, (sym (looked .is-syllable .ensures) ∙ c .before .if1 .taken, rw octets at (s .pre .1 .1)))
+    let x = s .args .c .0 in
+    let m = mappingOf (lent s) in
+    let octets = expanded-only m x x (own none) in
+    let only = bounded-one m levelsMost x (unfolding-of s x) in
+    (form s, (all-cons scalar x [] (s .pre .1 .0) refl, (only, rw octets at (s .pre .1 .1))))
 
 same-length : tie.Need-same-length
 same-length c = search needs
@@ -112,9 +123,9 @@ same-length c = search needs
 returns : tie.Need-returns
 returns c =
     let called = c .before .before in
-    let none = called .before .before .before .before in
+    let none = called .before .before .before .before .before in
     let s = start-none none in
-    filled-title (mappingOf (lent s)) (s .args .c .0) (s .args .c .0) (own none) (called .write-syllable .ensures)
+    filled-only (mappingOf (lent s)) (s .args .c .0) (s .args .c .0) (own none) (called .write-unfolded .ensures)
 
 -- a scalar code point, and room for its octets
 write-character-requires : tie.Need-write-character-requires
@@ -148,14 +159,19 @@ title-parts-requires c κs = (form (start c), found (c .before .before))
 is-syllable-requires-2 : tie.Need-is-syllable-requires-2
 is-syllable-requires-2 c κs = search needs
 
+slice-aggregate-write-unfolded-2 : tie.Need-slice-aggregate-write-unfolded-2
+slice-aggregate-write-unfolded-2 c = search needs
+
 -- the titlecase is a syllable, and there is room for its octets
-write-syllable-requires-2 : tie.Need-write-syllable-requires-2
-write-syllable-requires-2 c κs =
-    let looked = c .before .before in
-    let read = looked .before .before .before in
+write-unfolded-requires-2 : tie.Need-write-unfolded-requires-2
+write-unfolded-requires-2 c κs =
+    let read = c .before .before .before .before .before .before in
     let s = start read in
-    let octets = expanded-title (mappingOf (lent s)) (s .args .c .0) _ (title read) in
-    (s .pre .0, (sym (looked .is-syllable2 .ensures) ∙ c .before .if3 .taken, rw octets at (s .pre .1 .1)))
+    let x = read .title-at .result .0 in
+    let m = mappingOf (lent s) in
+    let octets = expanded-only m (s .args .c .0) x (title read) in
+    let only = bounded-one m levelsMost x (bounded read) in
+    (form s, (all-cons scalar x [] (scalar-title read) refl, (only, rw octets at (s .pre .1 .1))))
 
 same-length-3 : tie.Need-same-length-3
 same-length-3 c = search needs
@@ -164,9 +180,9 @@ same-length-3 c = search needs
 returns-3 : tie.Need-returns-3
 returns-3 c =
     let called = c .before .before in
-    let read = called .before .before .before .before .before .before in
+    let read = called .before .before .before .before .before .before .before in
     let s = start read in
-    filled-title (mappingOf (lent s)) (s .args .c .0) _ (title read) (called .write-syllable2 .ensures)
+    filled-only (mappingOf (lent s)) (s .args .c .0) _ (title read) (called .write-unfolded2 .ensures)
 
 -- the titlecase is scalar, and there is room for its octets
 write-character-requires-2 : tie.Need-write-character-requires-2
@@ -189,22 +205,36 @@ returns-4 c =
     filled-plain (mappingOf (lent s)) (s .args .c .0) _ (title read) (plain other) (s .args .out .now) _ _
     (called .write-character2 .ensures)
 
--- the titlecase has these parts, is scalar and unfolds, and there is room
-write-unfolded-requires : tie.Need-write-unfolded-requires
-write-unfolded-requires c κs =
-    let parted = c .before .before in
-    let read = parted .before in
+-- the titlecase has these parts, which are scalar; it unfolds, and there is room
+split : (c : tie.Else2) → let read = c .before .before in
+    Split (mappingOf (lent (start read))) (read .title-at .result .0) (c .before .title-parts .result .now)
+split c =
+    let s = start (c .before .before) in
+    entry-split (lent s) (form s) (parts (c .before)) (c .if2 .left)
+
+write-unfolded-requires-3 : tie.Need-write-unfolded-requires-3
+write-unfolded-requires-3 c κs =
+    let parted = split (c .before) in
+    let read = c .before .before .before in
     let s = start read in
-    let octets = expanded-title (mappingOf (lent s)) (s .args .c .0) _ (title read) in
-    let split = entry-split (lent s) (form s) (parts parted) (c .before .if2 .left) in
-    (form s, (split, (scalar-title read, (bounded read, rw octets at (s .pre .1 .1)))))
+    let x = read .title-at .result .0 in
+    let scalars = formed-parts-scalar (lent s) (form s) x in
+    let octets = expanded-title (mappingOf (lent s)) (s .args .c .0) x (title read) in
+    let by-parts = full-parts parted levelsMost (bounded-levels (bounded read) parted) in (
+      form s,
+      (rw (parted .parts) scalars, (bounded-parts (bounded read) parted, rw by-parts at (rw octets at (s .pre .1 .1)))),
+    )
 
 -- for few asks
-add-t26 : tie.Need-add-t26
-add-t26 c =
+add-t34 : tie.Need-add-t34
+add-t34 c =
     let called = c .before .before .before in
-    let read = called .before .before .before .before in
-    omega (arith, called .write-unfolded .ensures .counted .asked, bounded-asks (bounded read))
+    let parted = called .before .before in
+    omega (
+      arith,
+      called .write-unfolded3 .ensures .counted .asked,
+      bounded-asks (bounded-parts (bounded (parted .before .before)) (split parted)),
+    )
 
 same-length-5 : tie.Need-same-length-5
 same-length-5 c = search needs
@@ -214,8 +244,8 @@ returns-5 : tie.Need-returns-5
 returns-5 c =
     let called = c .before .before .before in
     let read = called .before .before .before .before in
-    let m = mappingOf (lent (start read)) in
-    filled-title m (start read .args .c .0) _ (title read) (filled-titlecase m _ (called .write-unfolded .ensures))
+    filled-title (mappingOf (lent (start read))) (start read .args .c .0) _ (title read)
+    (filled-parts (bounded read) (split (called .before .before)) (called .write-unfolded3 .ensures))
 
 pub write-expansion-spec : {M : Type 1} → statement M
 write-expansion-spec =
@@ -225,7 +255,8 @@ write-expansion-spec =
     enum-known-i
     enum-told
     is-syllable-requires
-    write-syllable-requires
+    slice-aggregate-write-unfolded
+    write-unfolded-requires
     same-length
     returns
     write-character-requires
@@ -234,13 +265,14 @@ write-expansion-spec =
     title-at-requires
     title-parts-requires
     is-syllable-requires-2
-    write-syllable-requires-2
+    slice-aggregate-write-unfolded-2
+    write-unfolded-requires-2
     same-length-3
     returns-3
     write-character-requires-2
     same-length-4
     returns-4
-    write-unfolded-requires
-    add-t26
+    write-unfolded-requires-3
+    add-t34
     same-length-5
     returns-5)

@@ -6,7 +6,8 @@ use Prim.Native.Nat.{ℕ, _+_, _-_, _%_, _/_}
 use mathlib.Core.List.{List, [], _∷_}
 use lib.ListN.{length, take}
 use Rattle.hangul.specs.Hangul.{sBase, lBase, vBase, tBase, nCount, tCount}
-use Rattle.hangul.proofs.Syllables.{jamoOf-syllable, parts-two, parts-three}
+use Rattle.hangul.specs.Promises.{jamoOf}
+use Rattle.hangul.proofs.Syllables.{parts-two, parts-three}
 use Rattle.hangul.proofs.parts_among.Statement.{statement}
 use Rattle.hangul.proofs.parts_among.Tie as tie
 
@@ -16,7 +17,8 @@ s c = c .args .c .0 - sBase
 
 three : (c : tie.Start)
     → c .args .jamo .now ≡ (lBase + s c / nCount) ∷ (vBase + s c % nCount / tCount) ∷ (tBase + s c % tCount) ∷ []
-three c = c .pre .1 ∙ jamoOf-syllable (c .args .c .0) (c .pre .0)
+unfolding jamoOf
+three c = c .pre .1
 
 -- there are three
 shared-slice-read-if1 : tie.Need-shared-slice-read-if1

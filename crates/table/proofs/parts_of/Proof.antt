@@ -17,7 +17,8 @@ is-syllable-requires c κs = search needs
 -- it is a syllable
 parts-among-requires : tie.Need-parts-among-requires
 parts-among-requires c κs =
-    (sym (c .before .is-syllable .ensures) ∙ c .if1 .taken, start (c .before) .pre .1)
+    let is = sym (c .before .is-syllable .ensures) ∙ c .if1 .taken in
+    (is, start (c .before) .pre .1 is)
 
 returns : tie.Need-returns
 returns c =

@@ -4,7 +4,8 @@
 -- Assumes nothing.
 use Prim.Native.Nat.{ℕ, _+_, _-_, _≤_, _<_}
 use native.Mathlib.Omega.{arith}
-use mathlib.Core.Path.{_≡_, sym, ap, _∙_}
+use mathlib.Core.Path.{_≡_, refl, sym, ap, _∙_}
+use mathlib.Core.Bool.{true, true≢false}
 use mathlib.Core.Logic.{⊎-elim}
 use mathlib.Core.Option.{Option, none, some}
 use lib.Dec.{leb}
@@ -12,6 +13,8 @@ use lib.ListN.{length, getD}
 use borrow.Author.Needs.{needs}
 use borrow.Author.Tests.{le-leb, lt-leb}
 use Rattle.terms.specs.Lists.{when}
+use Rattle.hangul.specs.Hangul.{syllable}
+use Rattle.hangul.specs.Promises.{jamoOf}
 use Rattle.hangul.proofs.Syllables.{length-jamoOf}
 use Rattle.table.specs.Mapping.{Mapping}
 use Rattle.table.specs.Table.{table, mappingOf}
@@ -24,6 +27,7 @@ use borrow.Fn.PlainCycle.{Measures, is, falls, and}
 use Rattle.decompose.proofs.depth.measure.Reads as reads
 use Rattle.decompose.proofs.depth.measure.Kinds as kinds
 use Rattle.decompose.proofs.depth.+measure.Lts-measure as lts
+use Rattle.hangul.proofs.is_syllable.Reads as is-syllable-reads
 use Rattle.hangul.proofs.jamo_of.Reads as jamo-of-reads
 use Rattle.table.proofs.parts_of.Reads as parts-of-reads
 use Rattle.decompose.proofs.depth.+measure.{statement}
@@ -41,14 +45,23 @@ abbrev below : ℕ → In 3 kinds.ps
 below t = and 3 kinds.ps (falls 3 kinds.ps _<_ μ-measure t) reads.Pre
 
 abbrev claims : ℕ → lts.Claims
-claims t = (jamo-of-reads.Asked, jamo-of-reads.Learnt, parts-of-reads.Asked, parts-of-reads.Learnt, below t, reads.Post)
+claims t = (
+  is-syllable-reads.Asked,
+  is-syllable-reads.Learnt,
+  jamo-of-reads.Asked,
+  jamo-of-reads.Learnt,
+  parts-of-reads.Asked,
+  parts-of-reads.Learnt,
+  below t,
+  reads.Post,
+)
 
 abbrev Inv-loop : lts.InvT-loop
-Inv-loop levels-left parts room entries pool total₀ i₀ total i =
-    Measuring (mappingOf (table entries pool)) levels-left parts room total i
+Inv-loop levels-left parts room entries pool jamo₀ total₀ i₀ jamo total i =
+    (3 ≡ length jamo) × Measuring (mappingOf (table entries pool)) levels-left parts room total i
 
 abbrev μ-loop : lts.MeasureT-loop
-μ-loop levels-left parts room entries pool total₀ i₀ total i = length parts - i
+μ-loop levels-left parts room entries pool jamo₀ total₀ i₀ jamo total i = length parts - i
 
 -- a need, or a place of the code, at the measure t
 abbrev Of : ℕ → (lts.Claims → In 3 kinds.ps → Out 3 kinds.ps kinds.r → lts.InvT-loop → lts.MeasureT-loop → Type 0) → Type 0
@@ -62,16 +75,30 @@ mapping t s = mappingOf (table (s .args .entries .now) (s .args .pool .now))
 abbrev entry : (t : ℕ) → Of t lts.At-loop → Of t lts.Start
 entry t l = l .before .before .before .before
 
+-- where it was looked whether a part is a syllable: its jamo, if it is one, and three numbers in any case
+joined : (t : ℕ) (c : Of t lts.Joined1)
+    → let l = c .before .before .before .before in
+    let part = getD (entry t l .args .parts .now) (l .loop .i) 0 in
+    (3 ≡ length (c .if1 .jamo)) × (syllable part ≡ true → c .if1 .jamo ≡ jamoOf part)
+joined t c =
+    ⊎-elim
+    (λ w. (rw (w .2, w .1 .ensures) (length-jamoOf _), λ is. w .2 ∙ w .1 .ensures))
+    (λ w. (
+      rw (w .1) (c .before .before .before .before .loop .inv .0),
+      λ is. absurd (true≢false (sym is ∙ sym (c .before .is-syllable .ensures) ∙ w .0 .left)),
+    ))
+    (c .if1 .came)
+
 -- where a part was looked up: the loop's head, the function's entry, that there is a part, the part, the room left, and the
 -- part's measurement
 abbrev head : (t : ℕ) → Of t lts.After-parts-of → Of t lts.At-loop
-head t c = c .before .before .before .before .before
+head t c = c .before .before .before .before .before .before
 
 abbrev start : (t : ℕ) → Of t lts.After-parts-of → Of t lts.Start
 start t c = entry t (head t c)
 
 abbrev taken : (t : ℕ) (c : Of t lts.After-parts-of) → head t c .loop .i < length (start t c .args .parts .now)
-taken t c = c .before .before .before .before .loop-test .taken
+taken t c = c .before .before .before .before .before .loop-test .taken
 
 abbrev part : (t : ℕ) → Of t lts.After-parts-of → ℕ
 part t c = getD (start t c .args .parts .now) (head t c .loop .i) 0
@@ -87,41 +114,41 @@ more : (t : ℕ) (c : Of t lts.After-parts-of) (k : ℕ) → its t c ≡ some k
     → let l = head t c in
     let s = start t c in
     Measuring (mapping t s) (s .args .levels-left) (s .args .parts .now) (s .args .room) (l .loop .total + k) (l .loop .i + 1)
-more t c k fits = measuring-more (head t c .loop .inv) (taken t c) fits
+more t c k fits = measuring-more (head t c .loop .inv .1) (taken t c) fits
 
 -- and where it doesn't, the parts are too much
 stop : (t : ℕ) (c : Of t lts.After-parts-of) → its t c ≡ none
     → let s = start t c in
     none ≡ measuredParts (mapping t s) (s .args .levels-left) (s .args .room) (s .args .parts .now)
-stop t c too-much = measuring-stop (head t c .loop .inv) (taken t c) too-much
+stop t c too-much = measuring-stop (head t c .loop .inv .1) (taken t c) too-much
 
 -- a part with no parts of its own is one code point
-whole : (t : ℕ) (c : Of t lts.Then1) → its t (c .before) ≡ when (leb 1 (left t (c .before))) 1
+whole : (t : ℕ) (c : Of t lts.Then2) → its t (c .before) ≡ when (leb 1 (left t (c .before))) 1
 whole t c =
     let s = start t (c .before) in
     measured-whole (mapping t s) (s .args .levels-left) (left t (c .before)) (part t (c .before))
-    (parts-none (mapping t s) (part t (c .before)) _ (c .before .parts-of .ensures) (c .if1 .taken))
+    (parts-none (mapping t s) (part t (c .before)) _ (c .before .parts-of .ensures) (c .if2 .taken))
 
 -- which fits where there is room
-one : (t : ℕ) (c : Of t lts.Else2) → its t (c .before .before) ≡ some 1
+one : (t : ℕ) (c : Of t lts.Else3) → its t (c .before .before) ≡ some 1
 one t c =
     let looked = c .before .before in
     whole t (c .before)
-    ∙ ap (λ b. when b 1) (le-leb 1 (left t looked) (omega (arith, c .if2 .left, head t looked .loop .inv .fits)))
+    ∙ ap (λ b. when b 1) (le-leb 1 (left t looked) (omega (arith, c .if3 .left, head t looked .loop .inv .1 .fits)))
 
 -- another has parts
-split : (t : ℕ) (c : Of t lts.Else1) → let looked = c .before in
+split : (t : ℕ) (c : Of t lts.Else2) → let looked = c .before in
     Split (mapping t (start t looked)) (part t looked) (looked .parts-of .result .now)
-split t c = parts-some (c .before .parts-of .ensures) (c .if1 .left)
+split t c = parts-some (c .before .parts-of .ensures) (c .if2 .left)
 
 -- and where a level is left, is measured by them
-by-parts : (t : ℕ) (c : Of t lts.Else3) → let looked = c .before .before in
+by-parts : (t : ℕ) (c : Of t lts.Else4) → let looked = c .before .before in
     let s = start t looked in
     its t looked ≡ measuredParts (mapping t s) (s .args .levels-left - 1) (left t looked) (looked .parts-of .result .now)
 by-parts t c =
     let looked = c .before .before in
     let s = start t looked in
-    measured-parts (split t (c .before)) (s .args .levels-left) (left t looked) (omega (arith, c .if3 .left))
+    measured-parts (split t (c .before)) (s .args .levels-left) (left t looked) (omega (arith, c .if4 .left))
 
 fits : (t : ℕ) (c : Of t lts.After-measurement) → let called = c .before .before in
     its t (called .before .before .before) ≡ some (c .measurement .given .0 .0)
@@ -131,7 +158,7 @@ fits t c =
 
 -- before the first part
 loop-holds : (t : ℕ) → Of t lts.Need-loop-holds
-loop-holds t c = measuring-start
+loop-holds t c = (refl, measuring-start)
 
 -- an index fits
 mul-t13 : (t : ℕ) → Of t lts.Need-mul-t13
@@ -140,20 +167,23 @@ mul-t13 t c = omega (arith, c .loop-test .taken)
 shared-slice-read-t16 : (t : ℕ) → Of t lts.Need-shared-slice-read-t16
 shared-slice-read-t16 t c = c .before .loop-test .taken
 
+is-syllable-requires : (t : ℕ) → Of t lts.Need-is-syllable-requires
+is-syllable-requires t c κs = search needs
+
 jamo-of-requires : (t : ℕ) → Of t lts.Need-jamo-of-requires
-jamo-of-requires t c κs = search needs
+jamo-of-requires t c κs = sym (c .before .is-syllable .ensures) ∙ c .if1 .taken
 
 slice-aggregate-parts-of : (t : ℕ) → Of t lts.Need-slice-aggregate-parts-of
-slice-aggregate-parts-of t c = length-jamoOf _ ∙ sym (ap length (c .before .jamo-of .ensures))
+slice-aggregate-parts-of t c = joined t (c .before) .0
 
 parts-of-requires : (t : ℕ) → Of t lts.Need-parts-of-requires
-parts-of-requires t c κs = (entry t (c .before .before .before .before) .pre .1, c .before .jamo-of .ensures)
+parts-of-requires t c κs = (entry t (c .before .before .before .before .before) .pre .1, joined t (c .before) .1)
 
 -- a whole part, and no room
 returns : (t : ℕ) → Of t lts.Need-returns
 returns t c =
     let looked = c .before .before in
-    stop t looked (whole t (c .before) ∙ ap (λ b. when b 1) (lt-leb 1 (left t looked) (omega (arith, c .if2 .taken))))
+    stop t looked (whole t (c .before) ∙ ap (λ b. when b 1) (lt-leb 1 (left t looked) (omega (arith, c .if3 .taken))))
 
 -- the sum is at most the room
 add-total : (t : ℕ) → Of t lts.Need-add-total
@@ -166,24 +196,24 @@ returns-2 : (t : ℕ) → Of t lts.Need-returns-2
 returns-2 t c =
     let looked = c .before .before in
     let s = start t looked in
-    let none-left : s .args .levels-left ≡ 0 = c .if3 .taken in
+    let none-left : s .args .levels-left ≡ 0 = c .if4 .taken in
     stop t looked
     (ap (λ n. measured (mapping t s) n (left t looked) (part t looked)) none-left
     ∙ measured-none (split t (c .before)) (left t looked))
 
 -- a level is left
 sub-measure : (t : ℕ) → Of t lts.Need-sub-measure
-sub-measure t c = omega (arith, c .if3 .left)
+sub-measure t c = omega (arith, c .if4 .left)
 
 -- what is measured so far has room
 sub-measure-2 : (t : ℕ) → Of t lts.Need-sub-measure-2
-sub-measure-2 t c = head t (c .before .before) .loop .inv .fits
+sub-measure-2 t c = head t (c .before .before) .loop .inv .1 .fits
 
 -- one level down
 measure-requires : (t : ℕ) → Of t lts.Need-measure-requires
 measure-requires t c κs =
     let s = start t (c .before .before) in
-    (omega (arith, c .if3 .left, s .pre .0), s .pre .1)
+    (omega (arith, c .if4 .left, s .pre .0), s .pre .1)
 
 enum-known-measurement : (t : ℕ) → Of t lts.Need-enum-known-measurement
 enum-known-measurement t c = search needs
@@ -217,23 +247,23 @@ loop-again : (t : ℕ) → Of t lts.Need-loop-again
 loop-again t c =
     ⊎-elim
     (λ w.
-    let counted : Of t lts.Else2 = record { before = record { before = c .before; if1 = w .0 }; if2 = w .1 } in
-    rw (w .2) (more t (c .before) 1 (one t counted)))
+    let counted : Of t lts.Else3 = record { before = record { before = c .before; if2 = w .0 }; if3 = w .1 } in
+    (joined t (c .before .before .before) .0, rw (w .2) (more t (c .before) 1 (one t counted))))
     (λ w.
     let called : Of t lts.After-measure = record {
-      before = record { before = record { before = c .before; if1 = w .0 }; if3 = w .1 };
+      before = record { before = record { before = c .before; if2 = w .0 }; if4 = w .1 };
       measure = w .2;
     } in
     let fitted : Of t lts.After-measurement = record {
       before = record { before = called; match = w .3 };
       measurement = w .4;
     } in
-    rw (w .6) (more t (c .before) _ (fits t fitted)))
-    (c .if1 .came)
+    (joined t (c .before .before .before) .0, rw (w .6) (more t (c .before) _ (fits t fitted))))
+    (c .if2 .came)
 
 -- every part was measured
 returns-4 : (t : ℕ) → Of t lts.Need-returns-4
-returns-4 t c = measuring-done (c .before .loop .inv) (c .loop-test .left)
+returns-4 t c = measuring-done (c .before .loop .inv .1) (c .loop-test .left)
 
 pub +measure-spec : {M : Type 1} → statement M
 +measure-spec =
@@ -242,6 +272,7 @@ pub +measure-spec : {M : Type 1} → statement M
     (loop-holds t)
     (mul-t13 t)
     (shared-slice-read-t16 t)
+    (is-syllable-requires t)
     (jamo-of-requires t)
     (slice-aggregate-parts-of t)
     (parts-of-requires t)
