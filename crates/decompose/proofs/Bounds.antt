@@ -40,7 +40,7 @@ full-some m (suc n) c = go (full-some m n) (m .parts c)
     go f (p ∷ ps) = each-some (λ p. full m n p) f p ps
 
 -- parts' unfoldings together ask as often as the code points that they give allow, if each one does
-pub total-asks-most : (m : Mapping) (n : ℕ) → ((p : ℕ) → asks m n p ≤ 1 + n * length (full m n p)) → (ps : List ℕ)
+total-asks-most : (m : Mapping) (n : ℕ) → ((p : ℕ) → asks m n p ≤ 1 + n * length (full m n p)) → (ps : List ℕ)
     → total (λ p. asks m n p) ps ≤ suc n * length (each (λ p. full m n p) ps)
 total-asks-most m n f ps =
     rw (length-each (λ p. full m n p) ps, ← total-mul (suc n) (λ p. length (full m n p)) ps)

@@ -2,18 +2,16 @@
 -- Assumes nothing.
 use mathlib.Core.Path.{_≡_, ap, _∙_}
 use Prim.Native.Nat.{ℕ, suc, _+_}
-use native.Mathlib.Nat.{add-zero}
 use native.Mathlib.Numerals.{add-one}
-use mathlib.Core.List.{List, [], _∷_, append-nil}
+use mathlib.Core.List.{List, []}
 use lib.ListN.{length}
-use Rattle.terms.specs.Lists.{each, total}
 use Rattle.terms.specs.Refusals.{levelsMost}
 use Rattle.table.specs.Mapping.{Mapping}
 use Rattle.utf8.specs.Utf8.{encode, encodes}
 use Rattle.utf8.specs.Promises.{Written}
 use Rattle.decompose.specs.Levels.{full, asks}
 use Rattle.decompose.specs.Steps.{expanded}
-use Rattle.decompose.specs.Promises.{fulls, Counted, Filled, PartsCounted, PartsFilled, ExpansionCounted, ExpansionFilled}
+use Rattle.decompose.specs.Promises.{Counted, Filled, ExpansionCounted, ExpansionFilled}
 use Rattle.decompose.specs.declared.Unfolded.{Unfolded}
 use Rattle.decompose.proofs.Walk.{encodes-whole, counted-whole, filled-whole}
 
@@ -23,32 +21,15 @@ module _ (m : Mapping) (c x : ℕ) (e : m .title c ≡ x) where
   expanded-title = ap (λ y. encodes (full m levelsMost y)) e
 
   -- for one ask more than that takes
-  pub counted-title : {r : Unfolded} → Counted (full m levelsMost x) (asks m levelsMost x) r
+  pub counted-title : (r : Unfolded) → Counted (full m levelsMost x) (asks m levelsMost x) r
       → ExpansionCounted m c (record { octets = r .octets; asks = r .asks + 1 })
-  counted-title {r} w = rw e (record { octets = w .octets; asked = add-one (r .asks) ∙ ap suc (w .asked) })
+  counted-title r w = rw e (record { octets = w .octets; asked = add-one (r .asks) ∙ ap suc (w .asked) })
 
   -- and these are what was written
-  pub filled-title : {slice : List ℕ} {r : Unfolded} {after : List ℕ}
+  pub filled-title : (slice : List ℕ) (r : Unfolded) (after : List ℕ)
       → Filled (full m levelsMost x) (asks m levelsMost x) slice r after
       → ExpansionFilled m c slice (record { octets = r .octets; asks = r .asks + 1 }) after
-  filled-title w = record { counted = counted-title (w .counted); written = rw e (w .written) }
-
-  -- ---- as the only part
-
-  -- it is one part, that has its octets
-  pub expanded-only : expanded m c ≡ encodes (fulls m levelsMost (x ∷ []))
-  unfolding each
-  expanded-only = rw (append-nil (full m levelsMost x)) expanded-title
-
-  -- and is counted with the ask for it
-  pub counted-only : {r : Unfolded} → PartsCounted m levelsMost (x ∷ []) r → ExpansionCounted m c r
-  unfolding each total
-  counted-only w = rw e (rw (append-nil (full m levelsMost x), add-zero (asks m levelsMost x)) at w)
-
-  pub filled-only : {slice : List ℕ} {r : Unfolded} {after : List ℕ} → PartsFilled m levelsMost (x ∷ []) slice r after
-      → ExpansionFilled m c slice r after
-  unfolding each total
-  filled-only w = rw e (rw (append-nil (full m levelsMost x), add-zero (asks m levelsMost x)) at w)
+  filled-title slice r after w = record { counted = counted-title r (w .counted); written = rw e (w .written) }
 
   -- ---- a titlecase with no parts
 
@@ -59,9 +40,10 @@ module _ (m : Mapping) (c x : ℕ) (e : m .title c ≡ x) where
 
     -- for two asks
     pub counted-plain : (k : ℕ) → k ≡ length (encode x) → ExpansionCounted m c (record { octets = k; asks = 2 })
-    counted-plain k h = counted-title (counted-whole m levelsMost x p k h)
+    counted-plain k h = counted-title (record { octets = k; asks = 1 }) (counted-whole m levelsMost x p k h)
 
     -- and is what was written
     pub filled-plain : (slice : List ℕ) (k : ℕ) (after : List ℕ) → Written x slice k after
         → ExpansionFilled m c slice (record { octets = k; asks = 2 }) after
-    filled-plain slice k after w = filled-title (filled-whole m levelsMost x p slice k after w)
+    filled-plain slice k after w =
+        filled-title slice (record { octets = k; asks = 1 }) after (filled-whole m levelsMost x p slice k after w)

@@ -4,9 +4,9 @@
 use mathlib.Core.Path.{_≡_, refl, sym, ap, _∙_}
 use Prim.Native.Nat.{ℕ, _+_, _-_, _≤_, _<_}
 use native.Mathlib.Omega.{arith}
-use mathlib.Core.Bool.{Bool, true, false, _&&_, and-true}
+use mathlib.Core.Bool.{Bool, true, false, _&&_}
 use mathlib.Core.Option.{Option, none, some}
-use mathlib.Core.List.{List, [], _∷_, append-nil}
+use mathlib.Core.List.{List}
 use lib.Dec.{leb}
 use lib.ListN.{length, getD, take, length-append}
 use lib.Seq.{take-all}
@@ -16,18 +16,17 @@ use Rattle.terms.proofs.Lists.{all-at, all-take-more, each-take-more, length-ea
 use Rattle.terms.proofs.Tests.{none-some}
 use Rattle.table.specs.Mapping.{Mapping}
 use Rattle.decompose.specs.Levels.{within, full}
-use Rattle.decompose.specs.Promises.{measured, fulls, measuredParts, Split}
-use Rattle.decompose.proofs.Walk.{within-parts, full-parts, within-none}
+use Rattle.decompose.specs.Promises.{measured, Split}
+use Rattle.decompose.proofs.Walk.{fulls, within-parts, full-parts, within-none}
+
+-- the parts are measured, as a code point is
+abbrev pub measuredParts : Mapping → ℕ → ℕ → List ℕ → Option ℕ
+measuredParts m n room ps = when (all (λ p. within m n p) ps && leb (length (fulls m n ps)) room) (length (fulls m n ps))
 
 -- a code point that decomposes is measured by its parts
 pub measured-parts : {m : Mapping} {c : ℕ} {ps : List ℕ} → Split m c ps → (n room : ℕ) → 1 ≤ n
     → measured m n room c ≡ measuredParts m (n - 1) room ps
 measured-parts s n room h = rw (within-parts s n h, full-parts s n h)
-
--- a part alone is measured as it is
-pub measured-one : (m : Mapping) (n room c : ℕ) → measuredParts m n room (c ∷ []) ≡ measured m n room c
-unfolding each
-measured-one m n room c = rw (append-nil (full m n c), and-true (within m n c))
 
 -- with no level left it is too much
 pub measured-none : {m : Mapping} {c : ℕ} {ps : List ℕ} → Split m c ps → (room : ℕ) → measured m 0 room c ≡ none

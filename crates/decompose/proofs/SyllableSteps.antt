@@ -25,7 +25,7 @@ use Rattle.decompose.specs.Steps.{expanded, lookups}
 use Rattle.decompose.specs.TableCheck.{tableRefusal}
 use Rattle.decompose.specs.Promises.{jamoLevels, Split}
 use Rattle.decompose.proofs.Levels.{empty-true, full-same, asks-same}
-use Rattle.decompose.proofs.Walk.{within-parts, full-parts, asks-parts, syllable-split, bounded-unfolds}
+use Rattle.decompose.proofs.Walk.{fulls, within-parts, full-parts, asks-parts, syllable-split, bounded-unfolds}
 use Rattle.decompose.proofs.Demand3.{accepted-form, accepted-all}
 
 -- ---- its level
@@ -40,7 +40,7 @@ highest-whole m (p ∷ ps) e =
 module _ (t : Table) (c : ℕ) (is : syllable c ≡ true) where
   -- it has parts
   some-jamo : mappingOf t .parts c ≡ [] → ⊥
-  some-jamo e = let s = syllable-split t is refl in omega (arith, s .some, ap length (s .parts ∙ e))
+  some-jamo e = let s = syllable-split t c is refl in omega (arith, s .some, ap length (s .parts ∙ e))
 
   -- one more than the highest level among its jamo
   pub syllable-level : {n : ℕ} → Highest (mappingOf t) (syllableParts c) n → Level (mappingOf t) c (suc n)
@@ -64,7 +64,7 @@ module _ (t : Table) (e : tableRefusal t ≡ none) (c : ℕ) (is : syllable c �
   m = mappingOf t
 
   parts : Split m c (syllableParts c)
-  parts = syllable-split t is refl
+  parts = syllable-split t c is refl
 
   title : m .title c ≡ c
   title = formed-title-syllable t (accepted-form t e) c is

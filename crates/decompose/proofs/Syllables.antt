@@ -25,7 +25,7 @@ use Rattle.table.proofs.Form.{partsOf-syllable}
 use Rattle.decompose.specs.Levels.{within, full}
 use Rattle.decompose.specs.TableCheck.{unfolds, faultySyllable}
 use Rattle.decompose.specs.Promises.{jamoLevels, measured, larger, largest, Split}
-use Rattle.decompose.proofs.Walk.{within-parts, full-parts}
+use Rattle.decompose.proofs.Walk.{fulls, within-parts, full-parts}
 use Rattle.decompose.proofs.Measuring.{measured-some}
 
 -- ---- faultySyllable

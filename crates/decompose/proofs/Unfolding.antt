@@ -1,5 +1,5 @@
--- Sizing and writing parts: what each has after the first i of them, as a record on plain values with its laws, start, one more,
--- done.
+-- Sizing and writing a code point that decomposes: what each has after the first i parts, as a record on plain values with
+-- its laws, start, one more, done.
 -- Assumes nothing.
 use mathlib.Core.Path.{_≡_, refl, sym, ap, _∙_}
 use Prim.Native.Nat.{ℕ, suc, _+_, _-_, _≤_, _<_}
@@ -13,9 +13,9 @@ use Rattle.terms.proofs.Parts.{take-drop, put-back, length-over, over-append}
 use Rattle.table.specs.Mapping.{Mapping}
 use Rattle.utf8.specs.Utf8.{encode, encodes}
 use Rattle.decompose.specs.Levels.{full, asks}
-use Rattle.decompose.specs.Promises.{fulls, BoundedParts, Counted, Filled, PartsCounted, PartsFilled}
+use Rattle.decompose.specs.Promises.{Split, Bounded, Counted, Filled}
 use Rattle.decompose.specs.declared.Unfolded.{Unfolded}
-use Rattle.decompose.proofs.Walk.{bounded-octets, bounded-asks}
+use Rattle.decompose.proofs.Walk.{fulls, full-parts, asks-parts, bounded-levels, bounded-octets, bounded-asks}
 
 -- ---- sizing
 
@@ -53,31 +53,36 @@ sizing-more {m} {n} {ps} {o} {a} {i} {r} w l part =
       asked = omega (arith, total-take-more (λ p. asks m n p) ps i 0 l);
     }
 
-module _ {m : Mapping} {n : ℕ} {ps : List ℕ} {o a i : ℕ} (w : Sizing m n ps o a i) where
-  -- every part was sized
-  pub sizing-done : length ps ≤ i → PartsCounted m n ps (record { octets = o; asks = a })
+module _ {m : Mapping} {n c : ℕ} {ps : List ℕ} (b : Bounded m n c) (s : Split m c ps) {o a i : ℕ}
+    (w : Sizing m (n - 1) ps o a i) where
+  -- every part was sized: the code point is
+  pub sizing-done : length ps ≤ i → Counted (full m n c) (asks m n c) (record { octets = o; asks = a })
   sizing-done l =
+      let h = bounded-levels b s in
       let whole = take-all i ps l in
-      record { octets = rw whole at (w .octets); asked = rw whole at (w .asked) }
+      record {
+        octets = rw (full-parts s n h) (rw whole at (w .octets));
+        asked = rw (asks-parts s n h) (rw whole at (w .asked));
+      }
 
   -- the octets so far are at most those of the whole
-  pub sizing-octets : o ≤ length (encodes (fulls m n ps))
+  pub sizing-octets : o ≤ length (encodes (full m n c))
   sizing-octets =
-      let first = fulls m n (take i ps) in
-      let rest = fulls m n (drop i ps) in
+      let first = fulls m (n - 1) (take i ps) in
+      let rest = fulls m (n - 1) (drop i ps) in
       omega (
         arith,
-        w .octets,
         ap length (each-append encode first rest),
         length-append (encodes first) (encodes rest),
-        ap (λ (l : List ℕ). length (encodes l)) (each-take-drop (λ p. full m n p) ps i),
+        ap (λ (l : List ℕ). length (encodes l))
+            (each-take-drop (λ p. full m (n - 1) p) ps i ∙ sym (full-parts s n (bounded-levels b s))),
       )
 
   -- which are few, and so are the asks
-  pub sizing-few : BoundedParts m n ps → (o ≤ 128) × (a ≤ 289)
-  sizing-few b = (
+  pub sizing-few : (o ≤ 128) × (a ≤ 257)
+  sizing-few = (
     omega (arith, sizing-octets, bounded-octets b),
-    omega (arith, w .asked, total-take (λ p. asks m n p) ps i, bounded-asks b),
+    omega (arith, total-take (λ p. asks m (n - 1) p) ps i, asks-parts s n (bounded-levels b s), bounded-asks b),
   )
 
 -- ---- writing
@@ -109,26 +114,38 @@ writing-more {m} {n} {ps} {slice} {o} {a} {i} {r} {now} {after} w l part =
           (over-append first next slice);
     }
 
-module _ {m : Mapping} {n : ℕ} {ps slice : List ℕ} {o a i : ℕ} {after : List ℕ} (w : Writing m n ps slice o a i after) where
-  -- every part was written
-  pub writing-done : length ps ≤ i → PartsFilled m n ps slice (record { octets = o; asks = a }) after
+module _
+    {m : Mapping}
+    {n c : ℕ}
+    {ps : List ℕ}
+    (b : Bounded m n c)
+    (s : Split m c ps)
+    {slice : List ℕ}
+    {o a i : ℕ}
+    {after : List ℕ}
+    (w : Writing m (n - 1) ps slice o a i after) where
+  -- every part was written: the code point is
+  pub writing-done : length ps ≤ i → Filled (full m n c) (asks m n c) slice (record { octets = o; asks = a }) after
   writing-done l =
       let whole = take-all i ps l in
-      record { counted = sizing-done (w .sized) l; written = rw whole at (w .written) }
+      record {
+        counted = sizing-done b s (w .sized) l;
+        written = rw (full-parts s n (bounded-levels b s)) (rw whole at (w .written));
+      }
 
-  module _ (room : length (encodes (fulls m n ps)) ≤ length slice) where
+  module _ (room : length (encodes (full m n c)) ≤ length slice) where
     -- the slice keeps its length, if it has room for the whole
     pub writing-length : length after ≡ length slice
     writing-length =
-        let most = sizing-octets (w .sized) in
-        ap length (w .written) ∙ length-over (encodes (fulls m n (take i ps))) slice (omega (arith, w .sized .octets))
+        let most = sizing-octets b s (w .sized) in
+        ap length (w .written) ∙ length-over (encodes (fulls m (n - 1) (take i ps))) slice (omega (arith, w .sized .octets))
 
     -- and what is lent of it has room for the next part
     pub writing-room : i < length ps
-        → length (encodes (full m n (getD ps i 0))) ≤ length (take (length after - o) (drop o after))
+        → length (encodes (full m (n - 1) (getD ps i 0))) ≤ length (take (length after - o) (drop o after))
     writing-room l =
         let p = getD ps i 0 in
-        let r : Unfolded = record { octets = length (encodes (full m n p)); asks = asks m n p } in
-        let part : Counted (full m n p) (asks m n p) r = record { octets = refl; asked = refl } in
+        let r : Unfolded = record { octets = length (encodes (full m (n - 1) p)); asks = asks m (n - 1) p } in
+        let part : Counted (full m (n - 1) p) (asks m (n - 1) p) r = record { octets = refl; asked = refl } in
         rw (take-drop o after)
-        (omega (arith, sizing-octets (sizing-more (w .sized) l part), writing-length, length-drop o after))
+        (omega (arith, sizing-octets b s (sizing-more (w .sized) l part), writing-length, length-drop o after))

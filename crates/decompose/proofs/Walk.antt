@@ -6,14 +6,16 @@ use Prim.Native.Nat.{ℕ, zero, suc, _+_, _-_, _≤_, _<_}
 use native.Mathlib.Nat.{mul-le-mul}
 use native.Mathlib.Numerals.{sub-one}
 use native.Mathlib.Omega.{arith}
-use mathlib.Core.Bool.{true, false}
+use mathlib.Core.Bool.{true, false, not}
 use mathlib.Core.Option.{none}
 use mathlib.Core.List.{List, [], _∷_, append-nil}
 use lib.Dec.{leb}
 use lib.ListN.{length, getD, take, length-append}
+use borrow.Author.Tests.{not-false}
 use Rattle.terms.specs.Lists.{all, empty, each, total, when, over}
 use Rattle.terms.specs.Refusals.{levelsMost, fullMost}
-use Rattle.terms.proofs.Lists.{all-cons, all-at, each-take-more, length-each-take}
+use Rattle.terms.proofs.Lists.{all-at, each-take-more, length-each-take}
+use Rattle.terms.proofs.Checks.{or-left, or-right}
 use Rattle.terms.proofs.Tests.{both}
 use Rattle.hangul.specs.Hangul.{syllable, syllableParts}
 use Rattle.table.specs.Mapping.{Mapping}
@@ -23,10 +25,9 @@ use Rattle.utf8.specs.Utf8.{encode, encodes}
 use Rattle.utf8.specs.Promises.{Written}
 use Rattle.decompose.specs.Levels.{within, full, asks}
 use Rattle.decompose.specs.TableCheck.{unfolds}
-use Rattle.decompose.specs.Promises.{measured, fulls, Split, BoundedParts, Counted, Filled, PartsCounted, PartsFilled}
-use Rattle.decompose.specs.declared.Unfolded.{Unfolded}
-use Rattle.decompose.proofs.Levels.{within-whole, full-whole, asks-whole}
-use Rattle.decompose.proofs.Bounds.{asks-most, total-asks-most, length-encodes, full-most}
+use Rattle.decompose.specs.Promises.{measured, decomposing, Split, Listed, Bounded, Counted, Filled}
+use Rattle.decompose.proofs.Levels.{empty-true, within-whole, full-whole, asks-whole}
+use Rattle.decompose.proofs.Bounds.{asks-most, length-encodes, full-most}
 
 -- ---- a code point that does not decompose
 
@@ -71,20 +72,49 @@ filled-whole m n c e slice k after w = record {
 pub parts-some : {m : Mapping} {c : ℕ} {ps : List ℕ} → ps ≡ m .parts c → (length ps ≡ 0 → ⊥) → Split m c ps
 parts-some e h = record { parts = e; some = omega arith }
 
--- the entries of a table say these parts of a code point
-pub entry-split : (t : Table) → formRefusal t ≡ none → {c : ℕ} {ps : List ℕ} → ps ≡ entryParts t c → (length ps ≡ 0 → ⊥)
-    → Split (mappingOf t) c ps
-entry-split t form {c} e h = parts-some (e ∙ sym (partsOf-entry t form c (λ none. h (ap length (e ∙ none))))) h
-
--- they say none, and it is no syllable
-pub entry-none : (t : Table) (c : ℕ) (ps : List ℕ) → ps ≡ entryParts t c → length ps ≡ 0 → syllable c ≡ false
-    → mappingOf t .parts c ≡ []
-entry-none t c ps e h other = parts-none (mappingOf t) c ps (e ∙ sym (partsOf-other t c other)) h
-
 -- a syllable has its jamo, over a table
-pub syllable-split : (t : Table) {c : ℕ} {ps : List ℕ} → syllable c ≡ true → ps ≡ syllableParts c → Split (mappingOf t) c ps
+pub syllable-split : (t : Table) (c : ℕ) {ps : List ℕ} → syllable c ≡ true → ps ≡ syllableParts c → Split (mappingOf t) c ps
 unfolding syllableParts
-syllable-split t {c} is e = record { parts = e ∙ sym (partsOf-syllable t c is); some = rw e (omega arith) }
+syllable-split t c is e = record { parts = e ∙ sym (partsOf-syllable t c is); some = rw e (omega arith) }
+
+-- ---- a code point by what the entries of a table say
+
+module _ (t : Table) (c : ℕ) (ps : List ℕ) where
+  -- it doesn't decompose: it has no parts
+  pub listed-none : ps ≡ entryParts t c → decomposing c ps ≡ false → mappingOf t .parts c ≡ []
+  listed-none e d =
+      partsOf-other t c (or-right (not (empty ps)) (syllable c) d)
+      ∙ sym e
+      ∙ empty-true ps (not-false (empty ps) (or-left (not (empty ps)) (syllable c) d))
+
+  -- it does: these are its parts, or it is a syllable
+  pub listed-some : formRefusal t ≡ none → ps ≡ entryParts t c → decomposing c ps ≡ true → Listed (mappingOf t) c ps
+  listed-some form e d = record {
+    parts = λ some-parts. e ∙ sym (partsOf-entry t form c (λ no-parts. some-parts (ap length (e ∙ no-parts))));
+    by-rule = go ps d;
+  }
+    where
+      go : (ps : List ℕ) → decomposing c ps ≡ true → length ps ≡ 0 → syllable c ≡ true
+      go [] d h = d
+      go (p ∷ ps) d h = absurd (omega arith)
+
+  -- the jamo of a syllable are its parts
+  pub listed-jamo : syllable c ≡ true → ps ≡ syllableParts c → Listed (mappingOf t) c ps
+  listed-jamo is e =
+      let s = syllable-split t c is e in
+      record { parts = λ some-parts. s .parts; by-rule = λ no-parts. is }
+
+-- its parts are so
+pub split-listed : {m : Mapping} {c : ℕ} {ps : List ℕ} → Split m c ps → Listed m c ps
+split-listed s = record { parts = λ some-parts. s .parts; by-rule = λ no-parts. absurd (omega (arith, s .some)) }
+
+-- parts that are there are its parts
+pub listed-split : {m : Mapping} {c : ℕ} {ps : List ℕ} → Listed m c ps → (length ps ≡ 0 → ⊥) → Split m c ps
+listed-split l h = parts-some (l .parts h) h
+
+-- the full decompositions of parts, one after another
+abbrev pub fulls : Mapping → ℕ → List ℕ → List ℕ
+fulls m n ps = each (λ p. full m n p) ps
 
 -- its parts are not empty
 empty-some : (ps : List ℕ) → 0 < length ps → empty ps ≡ false
@@ -117,27 +147,12 @@ module _ {m : Mapping} {c : ℕ} {ps : List ℕ} (s : Split m c ps) where
 
 -- ---- bounds
 
--- a code point unfolds within n of the 8 levels into at most 32 code points
-pub record Bounded (m : Mapping) (n c : ℕ) : Type 0 where
-  pub levels : n ≤ levelsMost
-  pub level : within m n c ≡ true
-  pub size : length (full m n c) ≤ fullMost
-
--- one that 7 passes does
+-- a code point that 7 passes is bounded
 pub bounded-unfolds : (m : Mapping) (c : ℕ) → unfolds m c ≡ true → Bounded m levelsMost c
 bounded-unfolds m c e = record {
   levels = omega arith;
   level = both (within m levelsMost c) (leb (length (full m levelsMost c)) fullMost) e .0;
   size = full-most m c e;
-}
-
--- alone it is bounded as parts are
-pub bounded-one : (m : Mapping) (n c : ℕ) → Bounded m n c → BoundedParts m n (c ∷ [])
-unfolding each
-bounded-one m n c b = record {
-  levels = b .levels;
-  level = all-cons (λ p. within m n p) c [] (b .level) refl;
-  size = rw (append-nil (full m n c)) (b .size);
 }
 
 -- a part's full decomposition is no longer than all together
@@ -150,25 +165,14 @@ part-most f ps i l =
       length-append (each f (take i ps)) (f (getD ps i 0)),
     )
 
-module _ {m : Mapping} {n : ℕ} {ps : List ℕ} (b : BoundedParts m n ps) where
-  -- each of bounded parts is
-  pub bounded-at : (i : ℕ) → i < length ps → Bounded m n (getD ps i 0)
-  bounded-at i l = record {
-    levels = b .levels;
-    level = all-at (λ p. within m n p) ps i 0 (b .level) l;
-    size = omega (arith, part-most (λ p. full m n p) ps i l, b .size);
-  }
+module _ {m : Mapping} {n c : ℕ} (b : Bounded m n c) where
+  -- a bounded code point becomes at most 128 octets
+  pub bounded-octets : length (encodes (full m n c)) ≤ 128
+  bounded-octets = omega (arith, length-encodes (full m n c), b .size)
 
-  -- they become at most 128 octets
-  pub bounded-octets : length (encodes (fulls m n ps)) ≤ 128
-  bounded-octets = omega (arith, length-encodes (fulls m n ps), b .size)
-
-  -- and take few asks
-  pub bounded-asks : suc (total (λ p. asks m n p) ps) ≤ 289
-  bounded-asks =
-      let levels : suc n ≤ suc levelsMost = omega (arith, b .levels) in
-      let most = mul-le-mul levels (b .size) in
-      omega (arith, total-asks-most m n (asks-most m n) ps, most)
+  -- and takes at most 257 asks
+  pub bounded-asks : asks m n c ≤ 257
+  bounded-asks = omega (arith, asks-most m n c, mul-le-mul (b .levels) (b .size))
 
 -- one that decomposes has a level left
 some-levels : {m : Mapping} {c : ℕ} {ps : List ℕ} → Split m c ps → (n : ℕ) → within m n c ≡ true → 1 ≤ n
@@ -178,26 +182,16 @@ some-levels s zero holds =
     omega arith
 some-levels s (suc n) holds = omega arith
 
-module _ {m : Mapping} {n c : ℕ} {ps : List ℕ} (b : Bounded m n c) (s : Split m c ps) where
-  pub bounded-levels : 1 ≤ n
-  bounded-levels = some-levels s n (b .level)
+pub bounded-levels : {m : Mapping} {n c : ℕ} {ps : List ℕ} → Bounded m n c → Split m c ps → 1 ≤ n
+bounded-levels {n = n} b s = some-levels s n (b .level)
 
-  -- and its parts are bounded, one level down
-  pub bounded-parts : BoundedParts m (n - 1) ps
-  bounded-parts = record {
-    levels = omega (arith, b .levels);
-    level = sym (within-parts s n bounded-levels) ∙ b .level;
-    size = omega (arith, ap length (full-parts s n bounded-levels), b .size);
-  }
-
-  -- what was counted of these is counted of it
-  pub counted-parts : {r : Unfolded} → PartsCounted m (n - 1) ps r → Counted (full m n c) (asks m n c) r
-  counted-parts w = record {
-    octets = rw (full-parts s n bounded-levels) (w .octets);
-    asked = rw (asks-parts s n bounded-levels) (w .asked);
-  }
-
-  -- and so what was written
-  pub filled-parts : {slice : List ℕ} {r : Unfolded} {after : List ℕ} → PartsFilled m (n - 1) ps slice r after
-      → Filled (full m n c) (asks m n c) slice r after
-  filled-parts w = record { counted = counted-parts (w .counted); written = rw (full-parts s n bounded-levels) (w .written) }
+-- and its parts are bounded, one level down
+pub bounded-part : {m : Mapping} {n c : ℕ} {ps : List ℕ} → Bounded m n c → Split m c ps → (i : ℕ) → i < length ps
+    → Bounded m (n - 1) (getD ps i 0)
+bounded-part {m} {n} {c} {ps} b s i l =
+    let h = bounded-levels b s in
+    record {
+      levels = omega (arith, b .levels);
+      level = all-at (λ p. within m (n - 1) p) ps i 0 (sym (within-parts s n h) ∙ b .level) l;
+      size = omega (arith, part-most (λ p. full m (n - 1) p) ps i l, ap length (full-parts s n h), b .size);
+    }

@@ -2,13 +2,14 @@
 -- Assumes nothing.
 use mathlib.Core.Path.{_≡_}
 use Prim.Native.Nat.{ℕ, zero, suc, max, _+_, _-_, _≤_, _<_}
-use mathlib.Core.Bool.{true, _&&_}
+use mathlib.Core.Bool.{Bool, true, _&&_, _||_, not}
 use mathlib.Core.Option.{Option, none, some}
 use mathlib.Core.List.{List}
 use lib.Dec.{leb}
 use lib.ListN.{length}
-use Rattle.terms.specs.Lists.{all, each, total, when, over}
+use Rattle.terms.specs.Lists.{empty, when, over}
 use Rattle.terms.specs.Refusals.{levelsMost, fullMost}
+use Rattle.hangul.specs.Hangul.{syllable}
 use Rattle.table.specs.Mapping.{Mapping}
 use Rattle.utf8.specs.Utf8.{encodes}
 use Rattle.decompose.specs.Levels.{within, full, asks}
@@ -20,14 +21,6 @@ use Rattle.decompose.specs.declared.Unfolded.{Unfolded}
 -- how many code points a code point unfolds into, if within n levels and into at most `room`
 abbrev pub measured : Mapping → ℕ → ℕ → ℕ → Option ℕ
 measured m n room c = when (within m n c && leb (length (full m n c)) room) (length (full m n c))
-
--- the full decompositions of parts, one after another
-abbrev pub fulls : Mapping → ℕ → List ℕ → List ℕ
-fulls m n ps = each (λ p. full m n p) ps
-
--- how many code points parts unfold into, if each is within n levels and they are together at most `room`
-abbrev pub measuredParts : Mapping → ℕ → ℕ → List ℕ → Option ℕ
-measuredParts m n room ps = when (all (λ p. within m n p) ps && leb (length (fulls m n ps)) room) (length (fulls m n ps))
 
 -- the larger of two measurements, if both fit
 abbrev pub larger : Option ℕ → Option ℕ → Option ℕ
@@ -54,11 +47,20 @@ pub record Split (m : Mapping) (c : ℕ) (ps : List ℕ) : Type 0 where
   pub parts : ps ≡ m .parts c
   pub some : 0 < length ps
 
--- parts unfold within n of the 8 levels, together into at most 32 code points: what unfolding them asks for
-pub record BoundedParts (m : Mapping) (n : ℕ) (ps : List ℕ) : Type 0 where
+-- a code point of which the entries say these parts decomposes: they say some, or it is a syllable
+abbrev pub decomposing : ℕ → List ℕ → Bool
+decomposing c listed = not (empty listed) || syllable c
+
+-- these are the parts of a code point or, where there are none, it is a syllable, whose parts are by rule
+pub record Listed (m : Mapping) (c : ℕ) (ps : List ℕ) : Type 0 where
+  pub parts : (length ps ≡ 0 → ⊥) → ps ≡ m .parts c
+  pub by-rule : length ps ≡ 0 → syllable c ≡ true
+
+-- a code point unfolds within n of the 8 levels into at most 32 code points: what unfolding it asks for
+pub record Bounded (m : Mapping) (n c : ℕ) : Type 0 where
   pub levels : n ≤ levelsMost
-  pub level : all (λ p. within m n p) ps ≡ true
-  pub size : length (fulls m n ps) ≤ fullMost
+  pub level : within m n c ≡ true
+  pub size : length (full m n c) ≤ fullMost
 
 -- code points were unfolded: the octets of their encoding, and the asks
 pub record Counted (cs : List ℕ) (k : ℕ) (r : Unfolded) : Type 0 where
@@ -70,12 +72,12 @@ pub record Filled (cs : List ℕ) (k : ℕ) (slice : List ℕ) (r : Unfolded) (a
   pub counted : Counted cs k r
   pub written : after ≡ over (encodes cs) slice
 
--- the full decompositions of parts were counted, with the ask that led to them, and written
-abbrev pub PartsCounted : Mapping → ℕ → List ℕ → Unfolded → Type 0
-PartsCounted m n ps r = Counted (fulls m n ps) (suc (total (λ p. asks m n p) ps)) r
+-- the full decomposition of a code point was counted, and written
+abbrev pub FullCounted : Mapping → ℕ → ℕ → Unfolded → Type 0
+FullCounted m n c r = Counted (full m n c) (asks m n c) r
 
-abbrev pub PartsFilled : Mapping → ℕ → List ℕ → List ℕ → Unfolded → List ℕ → Type 0
-PartsFilled m n ps slice r after = Filled (fulls m n ps) (suc (total (λ p. asks m n p) ps)) slice r after
+abbrev pub FullFilled : Mapping → ℕ → ℕ → List ℕ → Unfolded → List ℕ → Type 0
+FullFilled m n c slice r after = Filled (full m n c) (asks m n c) slice r after
 
 -- the expansion of a code point by the published steps was counted, and written
 abbrev pub ExpansionCounted : Mapping → ℕ → Unfolded → Type 0

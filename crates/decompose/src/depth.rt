@@ -1,19 +1,22 @@
 // Check 7 (document 01, "Refusal numbers"; document 02, request 4): how deep and how large the code point of each entry unfolds,
 // and each syllable.
 use crate::Measurement;
-use crate::PART_LEVELS;
 use table::layout;
 use terms::Check;
 use terms::CodePoint;
 ghost use mathlib.Core.Path.{_≡_};
-ghost use mathlib.Core.Bool.{not};
+ghost use mathlib.Core.Bool.{false, not};
 ghost use mathlib.Core.List.{[]};
 ghost use mathlib.Core.Option.{none};
 ghost use Prim.Native.Nat.{max, _+_, _≤_};
 ghost use Rattle.terms.specs.Refusals.{answer, checkOutcome};
 ghost use Rattle.table.specs.Table.{table, refusedAt, formRefusal, mappingOf};
+ghost use Rattle.hangul.specs.Hangul.{sBase, syllable};
 ghost use Rattle.decompose.specs.TableCheck.{faultySyllable, levelFault};
-ghost use Rattle.decompose.specs.Promises.{measuredParts, measuredSize, largest};
+ghost use Rattle.decompose.specs.Promises.{jamoLevels, measured, measuredSize, largest, Listed};
+
+// The most levels of a jamo in an accepted table: a syllable has one more.
+const JAMO_LEVELS: usize = terms::LEVELS_MOST - 1;
 
 // Whether 7 refuses a table of the form.
 pub fn check_levels(entries: &[u32], pool: &[u32]) -> Check
@@ -26,7 +29,14 @@ pub fn check_levels(entries: &[u32], pool: &[u32]) -> Check
         let parts = table::parts_at(entries, pool, i);
         // A code point with no parts unfolds into itself.
         if parts.len() != 0 {
-            let measurement = measure(PART_LEVELS, parts, terms::FULL_MOST, entries, pool);
+            let measurement = measure(
+                terms::LEVELS_MOST,
+                layout::code_at(entries, i),
+                parts,
+                terms::FULL_MOST,
+                entries,
+                pool,
+            );
             if let Measurement::TooMuch = measurement {
                 return table::refused_at(terms::REFUSED_LEVEL, i);
             }
@@ -76,15 +86,14 @@ fn syllables_fit(entries: &[u32], pool: &[u32]) -> bool
 // The largest measurement of so many jamo from one on, if each fits.
 fn measure_largest(from: u32, count: u32, room: usize, entries: &[u32], pool: &[u32]) -> Measurement
     requires { ⌜ formRefusal (table (now entries) (now pool)) ≡ none ⌝ }
-    requires { ⌜ from + count ≤ 0x10FFFF ⌝ }
+    requires { ⌜ from + count ≤ sBase ⌝ }
     ensures { λ r. ⌜ measuredSize r ≡ largest
         (mappingOf (table (now (entries .entry)) (now (pool .entry)))) room from count ⌝ }
 {
     let mut most = 0;
     let mut i = 0;
     while i < count {
-        let jamo = [from + i];
-        let measurement = measure(PART_LEVELS, &jamo, room, entries, pool);
+        let measurement = measure_jamo(CodePoint(from + i), room, entries, pool);
         match measurement {
             Measurement::Fits(n) => {
                 most = larger_of(most, n);
@@ -98,6 +107,23 @@ fn measure_largest(from: u32, count: u32, room: usize, entries: &[u32], pool: &[
     Measurement::Fits(most)
 }
 
+// How many code points a jamo unfolds into, if it leaves a level for a syllable and they are at most `room`.
+fn measure_jamo(c: CodePoint, room: usize, entries: &[u32], pool: &[u32]) -> Measurement
+    requires { ⌜ formRefusal (table (now entries) (now pool)) ≡ none ⌝ }
+    requires { ⌜ syllable (c .0) ≡ false ⌝ }
+    ensures { λ r. ⌜ measuredSize r ≡ measured
+        (mappingOf (table (now (entries .entry)) (now (pool .entry)))) jamoLevels room (c .0) ⌝ }
+{
+    let parts = table::entry_parts(entries, pool, c);
+    if parts.len() != 0 {
+        return measure(JAMO_LEVELS, c, parts, room, entries, pool);
+    }
+    if room == 0 {
+        return Measurement::TooMuch;
+    }
+    Measurement::Fits(1)
+}
+
 // The larger of two numbers.
 fn larger_of(a: usize, b: usize) -> usize
     ensures { λ r. ⌜ r ≡ max a b ⌝ }
@@ -108,38 +134,42 @@ fn larger_of(a: usize, b: usize) -> usize
     a
 }
 
-// How many code points these parts unfold into, if each is within the levels left and they are at most `room`.
+// How many code points a code point unfolds into of which the entries say these parts, or none of a syllable, if within the levels
+// left and into at most `room`.
 fn measure(
     levels_left: usize,
+    c: CodePoint,
     parts: &[u32],
     room: usize,
     entries: &[u32],
     pool: &[u32],
 ) -> Measurement
     requires { ⌜ formRefusal (table (now entries) (now pool)) ≡ none ⌝ }
-    ensures { λ r. ⌜ measuredSize r ≡ measuredParts
-        (mappingOf (table (now (entries .entry)) (now (pool .entry)))) «levels_left» room (now (parts .entry)) ⌝ }
+    requires { ⌜ Listed (mappingOf (table (now entries) (now pool))) (c .0) (now parts) ⌝ }
+    ensures { λ r. ⌜ measuredSize r ≡ measured
+        (mappingOf (table (now (entries .entry)) (now (pool .entry)))) «levels_left» room (c .0) ⌝ }
 {
-    let mut jamo = [0u32; 3];
+    if parts.len() == 0 {
+        let jamo = hangul::jamo_of(c);
+        let by_rule = hangul::parts_among(c, &jamo);
+        return measure(levels_left, c, by_rule, room, entries, pool);
+    }
+    if levels_left == 0 {
+        return Measurement::TooMuch;
+    }
     let mut total = 0;
     let mut i = 0;
     while i < parts.len() {
         let part = CodePoint(parts[i]);
-        if hangul::is_syllable(part) {
-            jamo = hangul::jamo_of(part);
-        }
-        let inner = table::parts_of(entries, pool, &jamo, part);
+        let inner = table::entry_parts(entries, pool, part);
         // Most parts are whole, and a call costs more than counting one.
-        if inner.len() == 0 {
+        if !crate::decomposes(part, inner) {
             if total == room {
                 return Measurement::TooMuch;
             }
             total += 1;
         } else {
-            if levels_left == 0 {
-                return Measurement::TooMuch;
-            }
-            let measurement = measure(levels_left - 1, inner, room - total, entries, pool);
+            let measurement = measure(levels_left - 1, part, inner, room - total, entries, pool);
             match measurement {
                 Measurement::Fits(n) => {
                     total += n;

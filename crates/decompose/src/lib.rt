@@ -13,22 +13,19 @@ use terms::Check;
 use terms::CodePoint;
 ghost use mathlib.Core.Path.{_≡_};
 ghost use mathlib.Core.Bool.{true};
-ghost use mathlib.Core.Option.{none, some};
+ghost use mathlib.Core.Option.{none};
 ghost use Prim.Native.Nat.{_≤_};
 ghost use lib.ListN.{length};
 ghost use Rattle.terms.specs.CodePoints.{scalar};
-ghost use Rattle.terms.specs.Lists.{all};
 ghost use Rattle.terms.specs.Refusals.{checkOutcome};
 ghost use Rattle.utf8.specs.Utf8.{encodes};
-ghost use Rattle.table.specs.Layout.{titleAt};
-ghost use Rattle.table.specs.Table.{table, formRefusal, entryOf, entryParts, mappingOf};
+ghost use Rattle.table.specs.Table.{table, formRefusal, entryOf, titleOf, entryParts, mappingOf};
+ghost use Rattle.table.specs.Promises.{placeFound};
+ghost use Rattle.decompose.specs.Levels.{full};
 ghost use Rattle.decompose.specs.Steps.{expanded};
 ghost use Rattle.decompose.specs.TableCheck.{tableRefusal, tableAnswer};
-ghost use Rattle.decompose.specs.Promises.{fulls, BoundedParts, PartsCounted, PartsFilled, ExpansionCounted};
+ghost use Rattle.decompose.specs.Promises.{decomposing, Listed, Bounded, FullCounted, FullFilled, ExpansionCounted};
 ghost use Rattle.decompose.specs.Promises.{ExpansionFilled};
-
-// The most levels of a part in an accepted table: what it is a part of has one more.
-const PART_LEVELS: usize = terms::LEVELS_MOST - 1;
 
 // How many code points a code point unfolds into.
 pub enum Measurement {
@@ -59,44 +56,21 @@ pub fn size_expansion(c: CodePoint, entries: &[u32], pool: &[u32]) -> Unfolded
     requires { ⌜ tableRefusal (table (now entries) (now pool)) ≡ none ⌝ }
     ensures { λ r. ⌜ ExpansionCounted (mappingOf (table (now (entries .entry)) (now (pool .entry)))) (c .0) r ⌝ }
 {
-    let Place::At(i) = table::find_entry(entries, c) else {
-        if hangul::is_syllable(c) {
-            let only = [c.0];
-            let unfolded = size_unfolded(terms::LEVELS_MOST, &only, entries, pool);
-            return Unfolded {
-                octets: unfolded.octets,
-                asks: unfolded.asks,
-            };
-        }
-        // Any other code point without an entry maps to itself: the two asks are known without a second search.
-        return Unfolded {
-            octets: utf8::octet_count(c),
-            asks: 2,
-        };
-    };
-    let title = layout::title_at(entries, i);
-    let parts = title_parts(c, i, entries, pool);
-    if parts.len() == 0 {
-        if hangul::is_syllable(title) {
-            let only = [title.0];
-            let unfolded = size_unfolded(terms::LEVELS_MOST, &only, entries, pool);
-            return Unfolded {
-                octets: unfolded.octets,
-                asks: unfolded.asks,
-            };
-        }
+    let place = table::find_entry(entries, c);
+    let title = title_of(c, place, entries);
+    let parts = title_parts(c, place, entries, pool);
+    if !decomposes(title, parts) {
         let octets = utf8::octet_count(title);
         return Unfolded { octets, asks: 2 };
     }
-    let unfolded = size_unfolded(PART_LEVELS, parts, entries, pool);
+    let unfolded = size_unfolded(terms::LEVELS_MOST, title, parts, entries, pool);
     Unfolded {
         octets: unfolded.octets,
         asks: unfolded.asks + 1,
     }
 }
 
-// Writes a code point's expansion at the start of a slice that has room for it. What unfolding came to is answered field by field,
-// so that the compiler keeps it in registers.
+// Writes a code point's expansion at the start of a slice that has room for it.
 pub fn write_expansion(c: CodePoint, entries: &[u32], pool: &[u32], out: &mut [u8]) -> Unfolded
     requires { ⌜ tableRefusal (table (now entries) (now pool)) ≡ none ⌝ }
     requires { ⌜ scalar (c .0) ≡ true ⌝ }
@@ -104,46 +78,51 @@ pub fn write_expansion(c: CodePoint, entries: &[u32], pool: &[u32], out: &mut [u
     ensures { λ r. ⌜ ExpansionFilled (mappingOf (table (now (entries .entry)) (now (pool .entry)))) (c .0)
         (now (out .entry)) r (now (out .exit)) ⌝ }
 {
-    let Place::At(i) = table::find_entry(entries, c) else {
-        if hangul::is_syllable(c) {
-            let only = [c.0];
-            let unfolded = write_unfolded(terms::LEVELS_MOST, &only, entries, pool, out);
-            return Unfolded {
-                octets: unfolded.octets,
-                asks: unfolded.asks,
-            };
-        }
-        let octets = utf8::write_character(c, out);
-        return Unfolded { octets, asks: 2 };
-    };
-    let title = layout::title_at(entries, i);
-    let parts = title_parts(c, i, entries, pool);
-    if parts.len() == 0 {
-        if hangul::is_syllable(title) {
-            let only = [title.0];
-            let unfolded = write_unfolded(terms::LEVELS_MOST, &only, entries, pool, out);
-            return Unfolded {
-                octets: unfolded.octets,
-                asks: unfolded.asks,
-            };
-        }
+    let place = table::find_entry(entries, c);
+    let title = title_of(c, place, entries);
+    let parts = title_parts(c, place, entries, pool);
+    if !decomposes(title, parts) {
         let octets = utf8::write_character(title, out);
         return Unfolded { octets, asks: 2 };
     }
-    let unfolded = write_unfolded(PART_LEVELS, parts, entries, pool, out);
+    let unfolded = write_unfolded(terms::LEVELS_MOST, title, parts, entries, pool, out);
     Unfolded {
         octets: unfolded.octets,
         asks: unfolded.asks + 1,
     }
 }
 
-// The decomposition that the entries say of the titlecase of a code point's entry: what the entry itself says, if that is the
-// code point.
-fn title_parts<'a>(c: CodePoint, i: usize, entries: &[u32], pool: &'a [u32]) -> &'a [u32]
-    requires { ⌜ formRefusal (table (now entries) (now pool)) ≡ none ⌝ }
-    requires { ⌜ entryOf (now entries) (c .0) ≡ some i ⌝ }
-    ensures { λ r. ⌜ now r ≡ entryParts (table (now (entries .entry)) (now (pool .entry))) (titleAt (now (entries .entry)) i) ⌝ }
+// Whether a code point decomposes, of which the entries say these parts.
+fn decomposes(c: CodePoint, listed: &[u32]) -> bool
+    ensures { λ r. ⌜ r ≡ decomposing (c .0) (now (listed .entry)) ⌝ }
 {
+    if listed.len() != 0 {
+        return true;
+    }
+    hangul::is_syllable(c)
+}
+
+// The titlecase of a code point whose entry was looked for.
+fn title_of(c: CodePoint, place: Place, entries: &[u32]) -> CodePoint
+    requires { ⌜ placeFound place ≡ entryOf (now entries) (c .0) ⌝ }
+    ensures { λ r. ⌜ r .0 ≡ titleOf (now (entries .entry)) (c .0) ⌝ }
+{
+    match place {
+        Place::At(i) => layout::title_at(entries, i),
+        Place::Nowhere => c,
+    }
+}
+
+// What the entries say of that titlecase: what the code point's own says, if they are the same.
+fn title_parts<'a>(c: CodePoint, place: Place, entries: &[u32], pool: &'a [u32]) -> &'a [u32]
+    requires { ⌜ formRefusal (table (now entries) (now pool)) ≡ none ⌝ }
+    requires { ⌜ placeFound place ≡ entryOf (now entries) (c .0) ⌝ }
+    ensures { λ r. ⌜ now r ≡ entryParts (table (now (entries .entry)) (now (pool .entry)))
+        (titleOf (now (entries .entry)) (c .0)) ⌝ }
+{
+    let Place::At(i) = place else {
+        return &pool[..0];
+    };
     let title = layout::title_at(entries, i);
     if title.0 == c.0 {
         return table::parts_at(entries, pool, i);
@@ -151,30 +130,37 @@ fn title_parts<'a>(c: CodePoint, i: usize, entries: &[u32], pool: &'a [u32]) -> 
     table::entry_parts(entries, pool, title)
 }
 
-// The octets of the full decompositions of parts, and the asks: one for the parts, or for the titlecase that is the only one, and
-// those of their unfolding.
-fn size_unfolded(levels_left: usize, parts: &[u32], entries: &[u32], pool: &[u32]) -> Unfolded
+// The octets of the full decomposition of a code point of which the entries say these parts, or none of a syllable, and the asks
+// of its unfolding.
+fn size_unfolded(
+    levels_left: usize,
+    c: CodePoint,
+    parts: &[u32],
+    entries: &[u32],
+    pool: &[u32],
+) -> Unfolded
     requires { ⌜ formRefusal (table (now entries) (now pool)) ≡ none ⌝ }
-    requires { ⌜ BoundedParts (mappingOf (table (now entries) (now pool))) «levels_left» (now parts) ⌝ }
-    ensures { λ r. ⌜ PartsCounted (mappingOf (table (now (entries .entry)) (now (pool .entry)))) «levels_left»
-        (now (parts .entry)) r ⌝ }
+    requires { ⌜ Listed (mappingOf (table (now entries) (now pool))) (c .0) (now parts) ⌝ }
+    requires { ⌜ Bounded (mappingOf (table (now entries) (now pool))) «levels_left» (c .0) ⌝ }
+    ensures { λ r. ⌜ FullCounted (mappingOf (table (now (entries .entry)) (now (pool .entry)))) «levels_left» (c .0) r ⌝ }
 {
-    let mut jamo = [0u32; 3];
+    if parts.len() == 0 {
+        let jamo = hangul::jamo_of(c);
+        let by_rule = hangul::parts_among(c, &jamo);
+        return size_unfolded(levels_left, c, by_rule, entries, pool);
+    }
     let mut octets = 0;
     let mut asked: u64 = 1;
     let mut i = 0;
     while i < parts.len() {
         let part = CodePoint(parts[i]);
-        if hangul::is_syllable(part) {
-            jamo = hangul::jamo_of(part);
-        }
-        let inner = table::parts_of(entries, pool, &jamo, part);
+        let inner = table::entry_parts(entries, pool, part);
         // Most parts are whole, and a call costs more than counting one.
-        if inner.len() == 0 {
+        if !decomposes(part, inner) {
             octets += utf8::octet_count(part);
             asked += 1;
         } else {
-            let sized = size_unfolded(levels_left - 1, inner, entries, pool);
+            let sized = size_unfolded(levels_left - 1, part, inner, entries, pool);
             octets += sized.octets;
             asked += sized.asks;
         }
@@ -186,39 +172,48 @@ fn size_unfolded(levels_left: usize, parts: &[u32], entries: &[u32], pool: &[u32
     }
 }
 
-// Writes the full decompositions of parts, one after another, at the start of a slice that has room for them.
+// Writes the full decomposition of such a code point at the start of a slice that has room for it.
 fn write_unfolded(
     levels_left: usize,
+    c: CodePoint,
     parts: &[u32],
     entries: &[u32],
     pool: &[u32],
     out: &mut [u8],
 ) -> Unfolded
     requires { ⌜ formRefusal (table (now entries) (now pool)) ≡ none ⌝ }
-    requires { ⌜ all scalar (now parts) ≡ true ⌝ }
-    requires { ⌜ BoundedParts (mappingOf (table (now entries) (now pool))) «levels_left» (now parts) ⌝ }
-    requires { ⌜ length (encodes (fulls (mappingOf (table (now entries) (now pool))) «levels_left» (now parts)))
-        ≤ length (now out) ⌝ }
-    ensures { λ r. ⌜ PartsFilled (mappingOf (table (now (entries .entry)) (now (pool .entry)))) «levels_left»
-        (now (parts .entry)) (now (out .entry)) r (now (out .exit)) ⌝ }
+    requires { ⌜ Listed (mappingOf (table (now entries) (now pool))) (c .0) (now parts) ⌝ }
+    requires { ⌜ scalar (c .0) ≡ true ⌝ }
+    requires { ⌜ Bounded (mappingOf (table (now entries) (now pool))) «levels_left» (c .0) ⌝ }
+    requires { ⌜ length (encodes (full (mappingOf (table (now entries) (now pool))) «levels_left» (c .0))) ≤ length (now out) ⌝ }
+    ensures { λ r. ⌜ FullFilled (mappingOf (table (now (entries .entry)) (now (pool .entry)))) «levels_left» (c .0)
+        (now (out .entry)) r (now (out .exit)) ⌝ }
 {
-    let mut jamo = [0u32; 3];
+    if parts.len() == 0 {
+        let jamo = hangul::jamo_of(c);
+        let by_rule = hangul::parts_among(c, &jamo);
+        return write_unfolded(levels_left, c, by_rule, entries, pool, out);
+    }
     let mut at = 0;
     let mut asks: u64 = 1;
     let mut i = 0;
     while i < parts.len() {
         let part = CodePoint(parts[i]);
-        if hangul::is_syllable(part) {
-            jamo = hangul::jamo_of(part);
-        }
-        let inner = table::parts_of(entries, pool, &jamo, part);
+        let inner = table::entry_parts(entries, pool, part);
         // Most parts are whole, and a call costs more than writing one.
-        if inner.len() == 0 {
+        if !decomposes(part, inner) {
             let octets = utf8::write_character(part, &mut out[at..]);
             at += octets;
             asks += 1;
         } else {
-            let written = write_unfolded(levels_left - 1, inner, entries, pool, &mut out[at..]);
+            let written = write_unfolded(
+                levels_left - 1,
+                part,
+                inner,
+                entries,
+                pool,
+                &mut out[at..],
+            );
             at += written.octets;
             asks += written.asks;
         }

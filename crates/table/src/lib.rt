@@ -8,15 +8,12 @@ use terms::Check;
 use terms::CodePoint;
 use terms::Refusal;
 ghost use mathlib.Core.Path.{_≡_};
-ghost use mathlib.Core.Bool.{true};
 ghost use mathlib.Core.List.{[]};
 ghost use mathlib.Core.Option.{none, some};
 ghost use Prim.Native.Nat.{_<_};
 ghost use Rattle.terms.specs.Refusals.{refusal, answer, checkOutcome};
 ghost use Rattle.table.specs.Layout.{entryCount};
-ghost use Rattle.hangul.specs.Hangul.{syllable};
-ghost use Rattle.hangul.specs.Promises.{jamoOf};
-ghost use Rattle.table.specs.Table.{table, formRefusal, entryOf, partsIn, entryParts, partsOf};
+ghost use Rattle.table.specs.Table.{table, formRefusal, entryOf, partsIn, entryParts};
 ghost use Rattle.table.specs.Promises.{placeFound, Ascending, Candidates};
 
 // Within how many entries of a guess to look first.
@@ -69,18 +66,6 @@ pub fn find_entry(entries: &[u32], c: CodePoint) -> Place
         }
     }
     find_around(entries, c, count)
-}
-
-// The decomposition of a code point, as a part of the pool or, of a syllable, of its jamo; empty if it has none.
-pub fn parts_of<'a>(entries: &[u32], pool: &'a [u32], jamo: &'a [u32], c: CodePoint) -> &'a [u32]
-    requires { ⌜ formRefusal (table (now entries) (now pool)) ≡ none ⌝ }
-    requires { ⌜ (syllable (c .0) ≡ true → now jamo ≡ jamoOf (c .0)) ⌝ }
-    ensures { λ r. ⌜ now r ≡ partsOf (table (now (entries .entry)) (now (pool .entry))) (c .0) ⌝ }
-{
-    if hangul::is_syllable(c) {
-        return hangul::parts_among(c, jamo);
-    }
-    entry_parts(entries, pool, c)
 }
 
 // The decomposition that the entry of a code point says, as a part of the pool; empty if it has none.

@@ -1,39 +1,39 @@
--- `decompose::size_unfolded` meets its contract. It calls itself for the parts of each part that decomposes, one level down; the
--- measure of the recursion is the levels left. The loop's invariant: the parts so far come to `octets` octets and, with the ask
--- that led to them, to `asked` asks (`Sizing`). The loop's measure is the number of parts that are left. Assumes nothing.
-use Prim.Native.Nat.{ℕ, _+_, _-_, _≤_, _<_}
+-- `decompose::size_unfolded` meets its contract. It calls itself with the jamo of a syllable, and for each part that decomposes,
+-- one level down; the measure of the recursion is twice the levels left, and one where there are no parts. The loop's invariant: the parts so far come to `octets` octets and, with the ask for
+-- the parts, to `asked` asks (`Sizing`). The loop's measure is the number of parts that are left. Assumes nothing.
+use Prim.Native.Nat.{ℕ, _+_, _-_, _*_, _≤_, _<_}
 use native.Mathlib.Omega.{arith}
-use mathlib.Core.Path.{_≡_, refl, sym, _∙_}
-use mathlib.Core.Bool.{true, true≢false}
+use mathlib.Core.Path.{_≡_, sym, ap, _∙_}
+use mathlib.Core.Bool.{true}
 use mathlib.Core.Logic.{⊎-elim}
 use lib.ListN.{length, getD}
 use borrow.Author.Needs.{needs}
+use borrow.Author.Tests.{not-true, not-false}
 use Rattle.hangul.specs.Hangul.{syllable}
-use Rattle.hangul.specs.Promises.{jamoOf}
 use Rattle.hangul.proofs.Syllables.{length-jamoOf}
 use Rattle.table.specs.Mapping.{Mapping}
-use Rattle.table.specs.Table.{table, mappingOf}
-use Rattle.decompose.specs.Levels.{full, asks}
-use Rattle.decompose.specs.Promises.{Split, Counted}
+use Rattle.table.specs.Table.{Table, table, mappingOf}
+use Rattle.decompose.specs.Promises.{Split, FullCounted}
 use Rattle.decompose.specs.declared.Unfolded.{Unfolded}
-use Rattle.decompose.proofs.Walk.{Bounded, parts-none, counted-whole, parts-some, bounded-at, bounded-levels, bounded-parts}
-use Rattle.decompose.proofs.Walk.{counted-parts}
+use Rattle.decompose.proofs.Walk.{counted-whole, syllable-split, listed-none, listed-some, listed-jamo, listed-split}
+use Rattle.decompose.proofs.Walk.{bounded-levels, bounded-part}
 use Rattle.decompose.proofs.Unfolding.{Sizing, sizing-start, sizing-more, sizing-done, sizing-few}
 use borrow.Fn.Kinds.{In, Out}
 use borrow.Fn.PlainCycle.{Measures, is, falls, and}
 use Rattle.decompose.proofs.size_unfolded.Reads as reads
 use Rattle.decompose.proofs.size_unfolded.Kinds as kinds
 use Rattle.decompose.proofs.+size_unfolded.Lts-size_unfolded as lts
-use Rattle.hangul.proofs.is_syllable.Reads as is-syllable-reads
 use Rattle.hangul.proofs.jamo_of.Reads as jamo-of-reads
-use Rattle.table.proofs.parts_of.Reads as parts-of-reads
+use Rattle.hangul.proofs.parts_among.Reads as parts-among-reads
+use Rattle.table.proofs.entry_parts.Reads as entry-parts-reads
+use Rattle.decompose.proofs.decomposes.Reads as decomposes-reads
 use Rattle.utf8.proofs.octet_count.Reads as octet-count-reads
 use Rattle.decompose.proofs.+size_unfolded.{statement}
 use Rattle.decompose.proofs.+size_unfolded.Tie.{close}
 
--- the recursion's measure: the levels left
+-- the recursion's measure: twice the levels left, and one where there are no parts
 abbrev μ-size-unfolded : Measures 3 kinds.ps ℕ
-μ-size-unfolded κs a = a .0
+μ-size-unfolded κs a = 2 * a .0 + (1 - length (a .1 .1 .0 .now))
 
 -- what the function is given at the measure t, and what a call of itself asks below t
 abbrev at : ℕ → In 3 kinds.ps
@@ -44,132 +44,138 @@ below t = and 3 kinds.ps (falls 3 kinds.ps _<_ μ-size-unfolded t) reads.Pre
 
 abbrev claims : ℕ → lts.Claims
 claims t = (
-  is-syllable-reads.Asked,
-  is-syllable-reads.Learnt,
   jamo-of-reads.Asked,
   jamo-of-reads.Learnt,
-  parts-of-reads.Asked,
-  parts-of-reads.Learnt,
-  octet-count-reads.Asked,
-  octet-count-reads.Learnt,
+  parts-among-reads.Asked,
+  parts-among-reads.Learnt,
   below t,
   reads.Post,
+  entry-parts-reads.Asked,
+  entry-parts-reads.Learnt,
+  decomposes-reads.Asked,
+  decomposes-reads.Learnt,
+  octet-count-reads.Asked,
+  octet-count-reads.Learnt,
 )
 
 abbrev Inv-loop : lts.InvT-loop
-Inv-loop levels-left parts entries pool jamo₀ octets₀ asked₀ i₀ jamo octets asked i =
-    (3 ≡ length jamo) × Sizing (mappingOf (table entries pool)) levels-left parts octets asked i
+Inv-loop levels-left parts entries pool octets₀ asked₀ i₀ octets asked i =
+    Sizing (mappingOf (table entries pool)) (levels-left - 1) parts octets asked i
 
 abbrev μ-loop : lts.MeasureT-loop
-μ-loop levels-left parts entries pool jamo₀ octets₀ asked₀ i₀ jamo octets asked i = length parts - i
+μ-loop levels-left parts entries pool octets₀ asked₀ i₀ octets asked i = length parts - i
 
 -- a need, or a place of the code, at the measure t
 abbrev Of : ℕ → (lts.Claims → In 3 kinds.ps → Out 3 kinds.ps kinds.r → lts.InvT-loop → lts.MeasureT-loop → Type 0) → Type 0
 Of t F = F (claims t) (at t) reads.Post Inv-loop μ-loop
 
--- at the function's entry: the mapping of the table
+-- at the function's entry: the table, and its mapping
+abbrev lent : (t : ℕ) → Of t lts.Start → Table
+lent t s = table (s .args .entries .now) (s .args .pool .now)
+
 abbrev mapping : (t : ℕ) → Of t lts.Start → Mapping
-mapping t s = mappingOf (table (s .args .entries .now) (s .args .pool .now))
+mapping t s = mappingOf (lent t s)
 
--- at the loop's head: the function's entry
-abbrev entry : (t : ℕ) → Of t lts.At-loop → Of t lts.Start
-entry t l = l .before .before .before .before
+-- where there are no parts, it is a syllable
+ruled : (t : ℕ) (c : Of t lts.Then1) → syllable (c .before .before .before .before .args .c .0) ≡ true
+ruled t c = c .before .before .before .before .pre .1 .1 .0 .by-rule (c .if1 .taken)
 
--- where it was looked whether a part is a syllable: its jamo, if it is one, and three numbers in any case
-joined : (t : ℕ) (c : Of t lts.Joined1)
-    → let l = c .before .before .before .before in
-    let part = getD (entry t l .args .parts .now) (l .loop .i) 0 in
-    (3 ≡ length (c .if1 .jamo)) × (syllable part ≡ true → c .if1 .jamo ≡ jamoOf part)
-joined t c =
-    ⊎-elim
-    (λ w. (rw (w .2, w .1 .ensures) (length-jamoOf _), λ is. w .2 ∙ w .1 .ensures))
-    (λ w. (
-      rw (w .1) (c .before .before .before .before .loop .inv .0),
-      λ is. absurd (true≢false (sym is ∙ sym (c .before .is-syllable .ensures) ∙ w .0 .left)),
-    ))
-    (c .if1 .came)
+-- where there are some: the function's entry, that they are its parts, and that a level is left
+abbrev entry : (t : ℕ) → Of t lts.Else1 → Of t lts.Start
+entry t c = c .before .before .before .before
 
--- where a part was looked up: the loop's head, the function's entry, that there is a part, and the part, which is bounded
-abbrev head : (t : ℕ) → Of t lts.After-parts-of → Of t lts.At-loop
-head t c = c .before .before .before .before .before .before
+split : (t : ℕ) (c : Of t lts.Else1) → Split (mapping t (entry t c)) (entry t c .args .c .0) (entry t c .args .parts .now)
+split t c = listed-split (entry t c .pre .1 .1 .0) (c .if1 .left)
 
-abbrev start : (t : ℕ) → Of t lts.After-parts-of → Of t lts.Start
-start t c = entry t (head t c)
+level : (t : ℕ) (c : Of t lts.Else1) → 1 ≤ entry t c .args .levels-left
+level t c = bounded-levels (entry t c .pre .1 .1 .1) (split t c)
 
-abbrev taken : (t : ℕ) (c : Of t lts.After-parts-of) → head t c .loop .i < length (start t c .args .parts .now)
-taken t c = c .before .before .before .before .before .loop-test .taken
+-- where a part was looked up: the loop's head, what is before it, the function's entry, that there is a part, and the part
+abbrev head : (t : ℕ) → Of t lts.After-decomposes → Of t lts.At-loop
+head t c = c .before .before .before .before
 
-abbrev part : (t : ℕ) → Of t lts.After-parts-of → ℕ
+abbrev some-parts : (t : ℕ) → Of t lts.After-decomposes → Of t lts.Else1
+some-parts t c = head t c .before
+
+abbrev start : (t : ℕ) → Of t lts.After-decomposes → Of t lts.Start
+start t c = entry t (some-parts t c)
+
+abbrev taken : (t : ℕ) (c : Of t lts.After-decomposes) → head t c .loop .i < length (start t c .args .parts .now)
+taken t c = c .before .before .before .loop-test .taken
+
+abbrev part : (t : ℕ) → Of t lts.After-decomposes → ℕ
 part t c = getD (start t c .args .parts .now) (head t c .loop .i) 0
 
-bounded : (t : ℕ) (c : Of t lts.After-parts-of) → Bounded (mapping t (start t c)) (start t c .args .levels-left) (part t c)
-bounded t c = bounded-at (start t c .pre .1 .1) (head t c .loop .i) (taken t c)
-
 -- that part was counted
-abbrev PartCounted : (t : ℕ) → Of t lts.After-parts-of → Unfolded → Type 0
-PartCounted t c r =
-    let m = mapping t (start t c) in
-    let n = start t c .args .levels-left in
-    Counted (full m n (part t c)) (asks m n (part t c)) r
+abbrev Part : (t : ℕ) → Of t lts.After-decomposes → Unfolded → Type 0
+Part t c r = let s = start t c in FullCounted (mapping t s) (s .args .levels-left - 1) (part t c) r
 
 -- so one part more is sized
-more : (t : ℕ) (c : Of t lts.After-parts-of) (r : Unfolded) → PartCounted t c r
+more : (t : ℕ) (c : Of t lts.After-decomposes) (r : Unfolded) → Part t c r
     → let l = head t c in
     let s = start t c in
-    Sizing (mapping t s) (s .args .levels-left) (s .args .parts .now)
+    Sizing (mapping t s) (s .args .levels-left - 1) (s .args .parts .now)
     (l .loop .octets + r .octets)
     (l .loop .asked + r .asks)
     (l .loop .i + 1)
-more t c r counted = sizing-more (head t c .loop .inv .1) (taken t c) counted
+more t c r counted = sizing-more (head t c .loop .inv) (taken t c) counted
 
 -- to few octets and few asks
-few : (t : ℕ) (c : Of t lts.After-parts-of) (r : Unfolded) → PartCounted t c r
-    → (head t c .loop .octets + r .octets ≤ 128) × (head t c .loop .asked + r .asks ≤ 289)
-few t c r counted = sizing-few (more t c r counted) (start t c .pre .1 .1)
+few : (t : ℕ) (c : Of t lts.After-decomposes) (r : Unfolded) → Part t c r
+    → (head t c .loop .octets + r .octets ≤ 128) × (head t c .loop .asked + r .asks ≤ 257)
+few t c r counted = sizing-few (start t c .pre .1 .1 .1) (split t (some-parts t c)) (more t c r counted)
 
 -- a part with no parts of its own was counted whole
 abbrev one : (t : ℕ) → Of t lts.After-octet-count → Unfolded
 one t c = record { octets = c .octet-count .result; asks = 1 }
 
-whole : (t : ℕ) (c : Of t lts.After-octet-count) → PartCounted t (c .before .before) (one t c)
+whole : (t : ℕ) (c : Of t lts.After-octet-count) → Part t (c .before .before) (one t c)
 whole t c =
     let looked = c .before .before in
-    let m = mapping t (start t looked) in
-    counted-whole m (start t looked .args .levels-left) (part t looked)
-    (parts-none m (part t looked) _ (looked .parts-of .ensures) (c .before .if2 .taken))
+    let s = start t looked in
+    let stays = sym (looked .decomposes .ensures) ∙ not-true _ (c .before .if2 .taken) in
+    counted-whole (mapping t s) (s .args .levels-left - 1) (part t looked)
+    (listed-none (lent t s) (part t looked) _ (looked .before .entry-parts .ensures) stays)
     (c .octet-count .result)
     (c .octet-count .ensures)
 
--- and one with parts by them
-split : (t : ℕ) (c : Of t lts.Else2) → let looked = c .before in
-    Split (mapping t (start t looked)) (part t looked) (looked .parts-of .result .now)
-split t c = parts-some (c .before .parts-of .ensures) (c .if2 .left)
+jamo-of-requires : (t : ℕ) → Of t lts.Need-jamo-of-requires
+jamo-of-requires t c κs = ruled t c
 
-by-parts : (t : ℕ) (c : Of t lts.After-size-unfolded) → PartCounted t (c .before .before) (c .size-unfolded .result)
-by-parts t c = counted-parts (bounded t (c .before .before)) (split t (c .before)) (c .size-unfolded .ensures)
+slice-aggregate-parts-among : (t : ℕ) → Of t lts.Need-slice-aggregate-parts-among
+slice-aggregate-parts-among t c = length-jamoOf _ ∙ sym (ap length (c .before .jamo-of .ensures))
+
+parts-among-requires : (t : ℕ) → Of t lts.Need-parts-among-requires
+parts-among-requires t c κs = (ruled t (c .before .before), c .before .jamo-of .ensures)
+
+-- a syllable, with its jamo for parts
+size-unfolded-requires : (t : ℕ) → Of t lts.Need-size-unfolded-requires
+size-unfolded-requires t c κs =
+    let none = c .before .before .before in
+    let s = none .before .before .before .before in
+    let listed = listed-jamo (lent t s) (s .args .c .0) _ (ruled t none) (c .parts-among .ensures) in
+    let some = syllable-split (lent t s) (s .args .c .0) (ruled t none) (c .parts-among .ensures) .some in
+    (omega (arith, s .pre .0, none .if1 .taken, some), (s .pre .1 .0, (listed, s .pre .1 .1 .1)))
+
+returns : (t : ℕ) → Of t lts.Need-returns
+returns t c = c .size-unfolded .ensures
 
 -- before the first part
 loop-holds : (t : ℕ) → Of t lts.Need-loop-holds
-loop-holds t c = (refl, sizing-start)
+loop-holds t c = sizing-start
 
 -- an index fits
-mul-t12 : (t : ℕ) → Of t lts.Need-mul-t12
-mul-t12 t c = omega (arith, c .loop-test .taken)
+mul-t19 : (t : ℕ) → Of t lts.Need-mul-t19
+mul-t19 t c = omega (arith, c .loop-test .taken)
 
-shared-slice-read-t15 : (t : ℕ) → Of t lts.Need-shared-slice-read-t15
-shared-slice-read-t15 t c = c .before .loop-test .taken
+shared-slice-read-t22 : (t : ℕ) → Of t lts.Need-shared-slice-read-t22
+shared-slice-read-t22 t c = c .before .loop-test .taken
 
-is-syllable-requires : (t : ℕ) → Of t lts.Need-is-syllable-requires
-is-syllable-requires t c κs = search needs
+entry-parts-requires : (t : ℕ) → Of t lts.Need-entry-parts-requires
+entry-parts-requires t c κs = entry t (c .before .before .before) .pre .1 .0
 
-jamo-of-requires : (t : ℕ) → Of t lts.Need-jamo-of-requires
-jamo-of-requires t c κs = sym (c .before .is-syllable .ensures) ∙ c .if1 .taken
-
-slice-aggregate-parts-of : (t : ℕ) → Of t lts.Need-slice-aggregate-parts-of
-slice-aggregate-parts-of t c = joined t (c .before) .0
-
-parts-of-requires : (t : ℕ) → Of t lts.Need-parts-of-requires
-parts-of-requires t c κs = (entry t (c .before .before .before .before .before) .pre .1 .0, joined t (c .before) .1)
+decomposes-requires : (t : ℕ) → Of t lts.Need-decomposes-requires
+decomposes-requires t c κs = search needs
 
 octet-count-requires : (t : ℕ) → Of t lts.Need-octet-count-requires
 octet-count-requires t c κs = search needs
@@ -183,24 +189,29 @@ add-asked t c = omega (arith, few t (c .before .before) (one t c) (whole t c))
 
 -- a level is left
 sub-size-unfolded : (t : ℕ) → Of t lts.Need-sub-size-unfolded
-sub-size-unfolded t c = bounded-levels (bounded t (c .before)) (split t c)
+sub-size-unfolded t c = level t (some-parts t (c .before))
 
--- one level down, with the parts that were found
-size-unfolded-requires : (t : ℕ) → Of t lts.Need-size-unfolded-requires
-size-unfolded-requires t c κs =
-    let s = start t (c .before) in
-    let b = bounded t (c .before) in
-    (omega (arith, bounded-levels b (split t c), s .pre .0), (s .pre .1 .0, bounded-parts b (split t c)))
+-- one level down, with what the entries say of the part
+size-unfolded-requires-2 : (t : ℕ) → Of t lts.Need-size-unfolded-requires-2
+size-unfolded-requires-2 t c κs =
+    let looked = c .before in
+    let some = some-parts t looked in
+    let s = start t looked in
+    let splits = sym (looked .decomposes .ensures) ∙ not-false _ (c .if2 .left) in
+    let listed = listed-some (lent t s) (part t looked) _ (s .pre .1 .0) (looked .before .entry-parts .ensures) splits in (
+      omega (arith, level t some, s .pre .0, split t some .some),
+      (s .pre .1 .0, (listed, bounded-part (s .pre .1 .1 .1) (split t some) (head t looked .loop .i) (taken t looked))),
+    )
 
 add-octets-2 : (t : ℕ) → Of t lts.Need-add-octets-2
 add-octets-2 t c =
     let called = c .before in
-    omega (arith, few t (called .before .before) (called .size-unfolded .result) (by-parts t called))
+    omega (arith, few t (called .before .before) (called .size-unfolded2 .result) (called .size-unfolded2 .ensures))
 
 add-asked-2 : (t : ℕ) → Of t lts.Need-add-asked-2
 add-asked-2 t c =
     let called = c .before .before in
-    omega (arith, few t (called .before .before) (called .size-unfolded .result) (by-parts t called))
+    omega (arith, few t (called .before .before) (called .size-unfolded2 .result) (called .size-unfolded2 .ensures))
 
 -- an index fits
 add-i : (t : ℕ) → Of t lts.Need-add-i
@@ -218,38 +229,40 @@ loop-again t c =
       before = record { before = c .before; if2 = w .0 };
       octet-count = w .1;
     } in
-    (joined t (c .before .before .before) .0, rw (w .2, w .3) (more t (c .before) (one t counted) (whole t counted))))
+    rw (w .2, w .3) (more t (c .before) (one t counted) (whole t counted)))
     (λ w.
-    let called : Of t lts.After-size-unfolded = record {
-      before = record { before = c .before; if2 = w .0 };
-      size-unfolded = w .1;
-    } in
-    (joined t (c .before .before .before) .0, rw (w .4, w .5) (more t (c .before) (w .1 .result) (by-parts t called))))
+    rw (w .4, w .5) (more t (c .before) (w .1 .result) (w .1 .ensures)))
     (c .if2 .came)
 
 -- every part was sized
-returns : (t : ℕ) → Of t lts.Need-returns
-returns t c = sizing-done (c .before .loop .inv .1) (c .loop-test .left)
+returns-2 : (t : ℕ) → Of t lts.Need-returns-2
+returns-2 t c =
+    let l = c .before in
+    let some = l .before in
+    sizing-done (entry t some .pre .1 .1 .1) (split t some) (l .loop .inv) (c .loop-test .left)
 
 pub +size-unfolded-spec : {M : Type 1} → statement M
 +size-unfolded-spec =
     close μ-size-unfolded λ t.
     lts.spec (claims t) (at t) reads.Post Inv-loop μ-loop
-    (loop-holds t)
-    (mul-t12 t)
-    (shared-slice-read-t15 t)
-    (is-syllable-requires t)
     (jamo-of-requires t)
-    (slice-aggregate-parts-of t)
-    (parts-of-requires t)
+    (slice-aggregate-parts-among t)
+    (parts-among-requires t)
+    (size-unfolded-requires t)
+    (returns t)
+    (loop-holds t)
+    (mul-t19 t)
+    (shared-slice-read-t22 t)
+    (entry-parts-requires t)
+    (decomposes-requires t)
     (octet-count-requires t)
     (add-octets t)
     (add-asked t)
     (sub-size-unfolded t)
-    (size-unfolded-requires t)
+    (size-unfolded-requires-2 t)
     (add-octets-2 t)
     (add-asked-2 t)
     (add-i t)
     (loop-less t)
     (loop-again t)
-    (returns t)
+    (returns-2 t)

@@ -1,41 +1,41 @@
--- `decompose::depth::measure` meets its contract. It calls itself for the parts of each part that decomposes, one level down;
--- the measure of the recursion is the levels left. The loop's invariant: the parts so far are within the levels left and come to
+-- `decompose::depth::measure` meets its contract. It calls itself with the jamo of a syllable, and for each part that decomposes,
+-- one level down; the measure of the recursion is twice the levels left, and one where there are no parts. The loop's invariant: the parts so far are within the levels left to them and come to
 -- `total` code points, for which there is room (`Measuring`). The loop's measure is the number of parts that are left.
 -- Assumes nothing.
-use Prim.Native.Nat.{ℕ, _+_, _-_, _≤_, _<_}
+use Prim.Native.Nat.{ℕ, _+_, _-_, _*_, _≤_, _<_}
 use native.Mathlib.Omega.{arith}
-use mathlib.Core.Path.{_≡_, refl, sym, ap, _∙_}
-use mathlib.Core.Bool.{true, true≢false}
+use mathlib.Core.Path.{_≡_, sym, ap, _∙_}
+use mathlib.Core.Bool.{true}
 use mathlib.Core.Logic.{⊎-elim}
 use mathlib.Core.Option.{Option, none, some}
 use lib.Dec.{leb}
 use lib.ListN.{length, getD}
 use borrow.Author.Needs.{needs}
-use borrow.Author.Tests.{le-leb, lt-leb}
+use borrow.Author.Tests.{le-leb, lt-leb, not-true, not-false}
 use Rattle.terms.specs.Lists.{when}
 use Rattle.hangul.specs.Hangul.{syllable}
-use Rattle.hangul.specs.Promises.{jamoOf}
 use Rattle.hangul.proofs.Syllables.{length-jamoOf}
 use Rattle.table.specs.Mapping.{Mapping}
-use Rattle.table.specs.Table.{table, mappingOf}
-use Rattle.decompose.specs.Promises.{measured, measuredParts, measuredSize, Split}
-use Rattle.decompose.proofs.Walk.{parts-none, measured-whole, parts-some}
-use Rattle.decompose.proofs.Measuring.{measured-parts, measured-none, Measuring, measuring-start, measuring-more}
-use Rattle.decompose.proofs.Measuring.{measuring-done, measuring-stop}
+use Rattle.table.specs.Table.{Table, table, mappingOf}
+use Rattle.decompose.specs.Promises.{measured, measuredSize, Split}
+use Rattle.decompose.proofs.Walk.{measured-whole, syllable-split, listed-none, listed-some, listed-jamo, listed-split}
+use Rattle.decompose.proofs.Measuring.{measuredParts, measured-parts, measured-none, Measuring, measuring-start}
+use Rattle.decompose.proofs.Measuring.{measuring-more, measuring-done, measuring-stop}
 use borrow.Fn.Kinds.{In, Out}
 use borrow.Fn.PlainCycle.{Measures, is, falls, and}
 use Rattle.decompose.proofs.depth.measure.Reads as reads
 use Rattle.decompose.proofs.depth.measure.Kinds as kinds
 use Rattle.decompose.proofs.depth.+measure.Lts-measure as lts
-use Rattle.hangul.proofs.is_syllable.Reads as is-syllable-reads
 use Rattle.hangul.proofs.jamo_of.Reads as jamo-of-reads
-use Rattle.table.proofs.parts_of.Reads as parts-of-reads
+use Rattle.hangul.proofs.parts_among.Reads as parts-among-reads
+use Rattle.table.proofs.entry_parts.Reads as entry-parts-reads
+use Rattle.decompose.proofs.decomposes.Reads as decomposes-reads
 use Rattle.decompose.proofs.depth.+measure.{statement}
 use Rattle.decompose.proofs.depth.+measure.Tie.{close}
 
--- the recursion's measure: the levels left
+-- the recursion's measure: twice the levels left, and one where there are no parts
 abbrev μ-measure : Measures 3 kinds.ps ℕ
-μ-measure κs a = a .0
+μ-measure κs a = 2 * a .0 + (1 - length (a .1 .1 .0 .now))
 
 -- what the function is given at the measure t, and what a call of itself asks below t
 abbrev at : ℕ → In 3 kinds.ps
@@ -46,144 +46,172 @@ below t = and 3 kinds.ps (falls 3 kinds.ps _<_ μ-measure t) reads.Pre
 
 abbrev claims : ℕ → lts.Claims
 claims t = (
-  is-syllable-reads.Asked,
-  is-syllable-reads.Learnt,
   jamo-of-reads.Asked,
   jamo-of-reads.Learnt,
-  parts-of-reads.Asked,
-  parts-of-reads.Learnt,
+  parts-among-reads.Asked,
+  parts-among-reads.Learnt,
   below t,
   reads.Post,
+  entry-parts-reads.Asked,
+  entry-parts-reads.Learnt,
+  decomposes-reads.Asked,
+  decomposes-reads.Learnt,
 )
 
 abbrev Inv-loop : lts.InvT-loop
-Inv-loop levels-left parts room entries pool jamo₀ total₀ i₀ jamo total i =
-    (3 ≡ length jamo) × Measuring (mappingOf (table entries pool)) levels-left parts room total i
+Inv-loop levels-left parts room entries pool total₀ i₀ total i =
+    Measuring (mappingOf (table entries pool)) (levels-left - 1) parts room total i
 
 abbrev μ-loop : lts.MeasureT-loop
-μ-loop levels-left parts room entries pool jamo₀ total₀ i₀ jamo total i = length parts - i
+μ-loop levels-left parts room entries pool total₀ i₀ total i = length parts - i
 
 -- a need, or a place of the code, at the measure t
 abbrev Of : ℕ → (lts.Claims → In 3 kinds.ps → Out 3 kinds.ps kinds.r → lts.InvT-loop → lts.MeasureT-loop → Type 0) → Type 0
 Of t F = F (claims t) (at t) reads.Post Inv-loop μ-loop
 
--- at the function's entry: the mapping of the table
+-- at the function's entry: the table, and its mapping
+abbrev lent : (t : ℕ) → Of t lts.Start → Table
+lent t s = table (s .args .entries .now) (s .args .pool .now)
+
 abbrev mapping : (t : ℕ) → Of t lts.Start → Mapping
-mapping t s = mappingOf (table (s .args .entries .now) (s .args .pool .now))
+mapping t s = mappingOf (lent t s)
 
--- at the loop's head: the function's entry
-abbrev entry : (t : ℕ) → Of t lts.At-loop → Of t lts.Start
-entry t l = l .before .before .before .before
+-- where there are no parts, the code point is a syllable
+ruled : (t : ℕ) (c : Of t lts.Then1) → syllable (c .before .before .before .before .args .c .0) ≡ true
+ruled t c = c .before .before .before .before .pre .1 .1 .by-rule (c .if1 .taken)
 
--- where it was looked whether a part is a syllable: its jamo, if it is one, and three numbers in any case
-joined : (t : ℕ) (c : Of t lts.Joined1)
-    → let l = c .before .before .before .before in
-    let part = getD (entry t l .args .parts .now) (l .loop .i) 0 in
-    (3 ≡ length (c .if1 .jamo)) × (syllable part ≡ true → c .if1 .jamo ≡ jamoOf part)
-joined t c =
-    ⊎-elim
-    (λ w. (rw (w .2, w .1 .ensures) (length-jamoOf _), λ is. w .2 ∙ w .1 .ensures))
-    (λ w. (
-      rw (w .1) (c .before .before .before .before .loop .inv .0),
-      λ is. absurd (true≢false (sym is ∙ sym (c .before .is-syllable .ensures) ∙ w .0 .left)),
-    ))
-    (c .if1 .came)
+-- where there are some: the function's entry, and that they are its parts
+abbrev some-parts : (t : ℕ) → Of t lts.Else1 → Of t lts.Start
+some-parts t c = c .before .before .before .before
+
+split : (t : ℕ) (c : Of t lts.Else1) → let s = some-parts t c in Split (mapping t s) (s .args .c .0) (s .args .parts .now)
+split t c = listed-split (some-parts t c .pre .1 .1) (c .if1 .left)
+
+-- where the loop starts: the function's entry, and that a level is left
+abbrev entry : (t : ℕ) → Of t lts.Else2 → Of t lts.Start
+entry t c = some-parts t (c .before)
+
+level : (t : ℕ) (c : Of t lts.Else2) → 1 ≤ entry t c .args .levels-left
+level t c = omega (arith, c .if2 .left)
+
+-- the measurement of the code point is that of its parts
+parts-decide : (t : ℕ) (c : Of t lts.Else2) → let s = entry t c in
+    measured (mapping t s) (s .args .levels-left) (s .args .room) (s .args .c .0)
+    ≡ measuredParts (mapping t s) (s .args .levels-left - 1) (s .args .room) (s .args .parts .now)
+parts-decide t c =
+    let s = entry t c in
+    measured-parts (split t (c .before)) (s .args .levels-left) (s .args .room) (level t c)
 
 -- where a part was looked up: the loop's head, the function's entry, that there is a part, the part, the room left, and the
 -- part's measurement
-abbrev head : (t : ℕ) → Of t lts.After-parts-of → Of t lts.At-loop
-head t c = c .before .before .before .before .before .before
+abbrev head : (t : ℕ) → Of t lts.After-decomposes → Of t lts.At-loop
+head t c = c .before .before .before .before
 
-abbrev start : (t : ℕ) → Of t lts.After-parts-of → Of t lts.Start
-start t c = entry t (head t c)
+abbrev start : (t : ℕ) → Of t lts.After-decomposes → Of t lts.Start
+start t c = entry t (head t c .before)
 
-abbrev taken : (t : ℕ) (c : Of t lts.After-parts-of) → head t c .loop .i < length (start t c .args .parts .now)
-taken t c = c .before .before .before .before .before .loop-test .taken
+abbrev taken : (t : ℕ) (c : Of t lts.After-decomposes) → head t c .loop .i < length (start t c .args .parts .now)
+taken t c = c .before .before .before .loop-test .taken
 
-abbrev part : (t : ℕ) → Of t lts.After-parts-of → ℕ
-part t c = getD (start t c .args .parts .now) (head t c .loop .i) 0
+abbrev code : (t : ℕ) → Of t lts.After-decomposes → ℕ
+code t c = getD (start t c .args .parts .now) (head t c .loop .i) 0
 
-abbrev left : (t : ℕ) → Of t lts.After-parts-of → ℕ
+abbrev left : (t : ℕ) → Of t lts.After-decomposes → ℕ
 left t c = start t c .args .room - head t c .loop .total
 
-abbrev its : (t : ℕ) → Of t lts.After-parts-of → Option ℕ
-its t c = let s = start t c in measured (mapping t s) (s .args .levels-left) (left t c) (part t c)
+abbrev part : (t : ℕ) → Of t lts.After-decomposes → Option ℕ
+part t c =
+    let s = start t c in
+    measured (mapping t s) (s .args .levels-left - 1) (left t c) (code t c)
 
 -- where it fits, one part more is measured
-more : (t : ℕ) (c : Of t lts.After-parts-of) (k : ℕ) → its t c ≡ some k
+more : (t : ℕ) (c : Of t lts.After-decomposes) (k : ℕ) → part t c ≡ some k
     → let l = head t c in
     let s = start t c in
-    Measuring (mapping t s) (s .args .levels-left) (s .args .parts .now) (s .args .room) (l .loop .total + k) (l .loop .i + 1)
-more t c k fits = measuring-more (head t c .loop .inv .1) (taken t c) fits
+    Measuring (mapping t s) (s .args .levels-left - 1) (s .args .parts .now) (s .args .room) (l .loop .total + k) (l .loop .i + 1)
+more t c k fits = measuring-more (head t c .loop .inv) (taken t c) fits
 
--- and where it doesn't, the parts are too much
-stop : (t : ℕ) (c : Of t lts.After-parts-of) → its t c ≡ none
+-- and where it doesn't, the code point is too much
+stop : (t : ℕ) (c : Of t lts.After-decomposes) → part t c ≡ none
     → let s = start t c in
-    none ≡ measuredParts (mapping t s) (s .args .levels-left) (s .args .room) (s .args .parts .now)
-stop t c too-much = measuring-stop (head t c .loop .inv .1) (taken t c) too-much
+    none ≡ measured (mapping t s) (s .args .levels-left) (s .args .room) (s .args .c .0)
+stop t c too-much =
+    measuring-stop (head t c .loop .inv) (taken t c) too-much ∙ sym (parts-decide t (head t c .before))
 
--- a part with no parts of its own is one code point
-whole : (t : ℕ) (c : Of t lts.Then2) → its t (c .before) ≡ when (leb 1 (left t (c .before))) 1
+-- a part that doesn't decompose is one code point
+whole : (t : ℕ) (c : Of t lts.Then3) → part t (c .before) ≡ when (leb 1 (left t (c .before))) 1
 whole t c =
-    let s = start t (c .before) in
-    measured-whole (mapping t s) (s .args .levels-left) (left t (c .before)) (part t (c .before))
-    (parts-none (mapping t s) (part t (c .before)) _ (c .before .parts-of .ensures) (c .if2 .taken))
+    let looked = c .before in
+    let s = start t looked in
+    let stays = sym (looked .decomposes .ensures) ∙ not-true _ (c .if3 .taken) in
+    measured-whole (mapping t s) (s .args .levels-left - 1) (left t looked) (code t looked)
+    (listed-none (lent t s) (code t looked) _ (looked .before .entry-parts .ensures) stays)
 
 -- which fits where there is room
-one : (t : ℕ) (c : Of t lts.Else3) → its t (c .before .before) ≡ some 1
+one : (t : ℕ) (c : Of t lts.Else4) → part t (c .before .before) ≡ some 1
 one t c =
     let looked = c .before .before in
     whole t (c .before)
-    ∙ ap (λ b. when b 1) (le-leb 1 (left t looked) (omega (arith, c .if3 .left, head t looked .loop .inv .1 .fits)))
+    ∙ ap (λ b. when b 1) (le-leb 1 (left t looked) (omega (arith, c .if4 .left, head t looked .loop .inv .fits)))
 
--- another has parts
-split : (t : ℕ) (c : Of t lts.Else2) → let looked = c .before in
-    Split (mapping t (start t looked)) (part t looked) (looked .parts-of .result .now)
-split t c = parts-some (c .before .parts-of .ensures) (c .if2 .left)
+-- and another fits if it was measured so
+fits : (t : ℕ) (c : Of t lts.After-measurement) → part t (c .before .before .before .before) ≡ some (c .measurement .given .0 .0)
+fits t c = sym (c .before .before .measure2 .ensures) ∙ ap measuredSize (c .measurement .given .1)
 
--- and where a level is left, is measured by them
-by-parts : (t : ℕ) (c : Of t lts.Else4) → let looked = c .before .before in
-    let s = start t looked in
-    its t looked ≡ measuredParts (mapping t s) (s .args .levels-left - 1) (left t looked) (looked .parts-of .result .now)
-by-parts t c =
-    let looked = c .before .before in
-    let s = start t looked in
-    measured-parts (split t (c .before)) (s .args .levels-left) (left t looked) (omega (arith, c .if4 .left))
+jamo-of-requires : (t : ℕ) → Of t lts.Need-jamo-of-requires
+jamo-of-requires t c κs = ruled t c
 
-fits : (t : ℕ) (c : Of t lts.After-measurement) → let called = c .before .before in
-    its t (called .before .before .before) ≡ some (c .measurement .given .0 .0)
-fits t c =
-    let called = c .before .before in
-    by-parts t (called .before) ∙ sym (called .measure .ensures) ∙ ap measuredSize (c .measurement .given .1)
+slice-aggregate-parts-among : (t : ℕ) → Of t lts.Need-slice-aggregate-parts-among
+slice-aggregate-parts-among t c = length-jamoOf _ ∙ sym (ap length (c .before .jamo-of .ensures))
+
+parts-among-requires : (t : ℕ) → Of t lts.Need-parts-among-requires
+parts-among-requires t c κs = (ruled t (c .before .before), c .before .jamo-of .ensures)
+
+-- a syllable, with its jamo for parts
+measure-requires : (t : ℕ) → Of t lts.Need-measure-requires
+measure-requires t c κs =
+    let none = c .before .before .before in
+    let s = none .before .before .before .before in
+    let x = s .args .c .0 in
+    let some = syllable-split (lent t s) x (ruled t none) (c .parts-among .ensures) .some in
+    let listed = listed-jamo (lent t s) x _ (ruled t none) (c .parts-among .ensures) in
+    (omega (arith, s .pre .0, none .if1 .taken, some), (s .pre .1 .0, listed))
+
+returns : (t : ℕ) → Of t lts.Need-returns
+returns t c = c .measure .ensures
+
+-- no level left
+returns-2 : (t : ℕ) → Of t lts.Need-returns-2
+returns-2 t c =
+    let s = some-parts t (c .before) in
+    let a = s .args in
+    let none-left : a .levels-left ≡ 0 = c .if2 .taken in
+    sym
+    (ap (λ n. measured (mapping t s) n (a .room) (a .c .0)) none-left
+    ∙ measured-none (split t (c .before)) (a .room))
 
 -- before the first part
 loop-holds : (t : ℕ) → Of t lts.Need-loop-holds
-loop-holds t c = (refl, measuring-start)
+loop-holds t c = measuring-start
 
 -- an index fits
-mul-t13 : (t : ℕ) → Of t lts.Need-mul-t13
-mul-t13 t c = omega (arith, c .loop-test .taken)
+mul-t20 : (t : ℕ) → Of t lts.Need-mul-t20
+mul-t20 t c = omega (arith, c .loop-test .taken)
 
-shared-slice-read-t16 : (t : ℕ) → Of t lts.Need-shared-slice-read-t16
-shared-slice-read-t16 t c = c .before .loop-test .taken
+shared-slice-read-t23 : (t : ℕ) → Of t lts.Need-shared-slice-read-t23
+shared-slice-read-t23 t c = c .before .loop-test .taken
 
-is-syllable-requires : (t : ℕ) → Of t lts.Need-is-syllable-requires
-is-syllable-requires t c κs = search needs
+entry-parts-requires : (t : ℕ) → Of t lts.Need-entry-parts-requires
+entry-parts-requires t c κs = entry t (c .before .before .before) .pre .1 .0
 
-jamo-of-requires : (t : ℕ) → Of t lts.Need-jamo-of-requires
-jamo-of-requires t c κs = sym (c .before .is-syllable .ensures) ∙ c .if1 .taken
-
-slice-aggregate-parts-of : (t : ℕ) → Of t lts.Need-slice-aggregate-parts-of
-slice-aggregate-parts-of t c = joined t (c .before) .0
-
-parts-of-requires : (t : ℕ) → Of t lts.Need-parts-of-requires
-parts-of-requires t c κs = (entry t (c .before .before .before .before .before) .pre .1, joined t (c .before) .1)
+decomposes-requires : (t : ℕ) → Of t lts.Need-decomposes-requires
+decomposes-requires t c κs = search needs
 
 -- a whole part, and no room
-returns : (t : ℕ) → Of t lts.Need-returns
-returns t c =
+returns-3 : (t : ℕ) → Of t lts.Need-returns-3
+returns-3 t c =
     let looked = c .before .before in
-    stop t looked (whole t (c .before) ∙ ap (λ b. when b 1) (lt-leb 1 (left t looked) (omega (arith, c .if3 .taken))))
+    stop t looked (whole t (c .before) ∙ ap (λ b. when b 1) (lt-leb 1 (left t looked) (omega (arith, c .if4 .taken))))
 
 -- the sum is at most the room
 add-total : (t : ℕ) → Of t lts.Need-add-total
@@ -191,29 +219,23 @@ add-total t c =
     let looked = c .before .before in
     omega (arith, more t looked 1 (one t c) .fits, start t looked .fits .room)
 
--- no level left for a part with parts
-returns-2 : (t : ℕ) → Of t lts.Need-returns-2
-returns-2 t c =
-    let looked = c .before .before in
-    let s = start t looked in
-    let none-left : s .args .levels-left ≡ 0 = c .if4 .taken in
-    stop t looked
-    (ap (λ n. measured (mapping t s) n (left t looked) (part t looked)) none-left
-    ∙ measured-none (split t (c .before)) (left t looked))
-
 -- a level is left
 sub-measure : (t : ℕ) → Of t lts.Need-sub-measure
-sub-measure t c = omega (arith, c .if4 .left)
+sub-measure t c = level t (head t (c .before) .before)
 
 -- what is measured so far has room
 sub-measure-2 : (t : ℕ) → Of t lts.Need-sub-measure-2
-sub-measure-2 t c = head t (c .before .before) .loop .inv .1 .fits
+sub-measure-2 t c = head t (c .before) .loop .inv .fits
 
--- one level down
-measure-requires : (t : ℕ) → Of t lts.Need-measure-requires
-measure-requires t c κs =
-    let s = start t (c .before .before) in
-    (omega (arith, c .if4 .left, s .pre .0), s .pre .1)
+-- one level down, with what the entries say of the part
+measure-requires-2 : (t : ℕ) → Of t lts.Need-measure-requires-2
+measure-requires-2 t c κs =
+    let looked = c .before in
+    let before = head t looked .before in
+    let s = start t looked in
+    let splits = sym (looked .decomposes .ensures) ∙ not-false _ (c .if3 .left) in
+    let listed = listed-some (lent t s) (code t looked) _ (s .pre .1 .0) (looked .before .entry-parts .ensures) splits in
+    (omega (arith, level t before, s .pre .0, split t (before .before) .some), (s .pre .1 .0, listed))
 
 enum-known-measurement : (t : ℕ) → Of t lts.Need-enum-known-measurement
 enum-known-measurement t c = search needs
@@ -221,19 +243,17 @@ enum-known-measurement t c = search needs
 -- the sum is at most the room
 add-total-2 : (t : ℕ) → Of t lts.Need-add-total-2
 add-total-2 t c =
-    let fitted = c .before in
-    let looked = fitted .before .before .before .before .before in
-    omega (arith, more t looked _ (fits t fitted) .fits, start t looked .fits .room)
+    let looked = c .before .before .before .before .before in
+    omega (arith, more t looked _ (fits t (c .before)) .fits, start t looked .fits .room)
 
 enum-told : (t : ℕ) → Of t lts.Need-enum-told
 enum-told t c = search needs
 
 -- a part that is too much
-returns-3 : (t : ℕ) → Of t lts.Need-returns-3
-returns-3 t c =
+returns-4 : (t : ℕ) → Of t lts.Need-returns-4
+returns-4 t c =
     let called = c .before .before in
-    stop t (called .before .before .before)
-    (by-parts t (called .before) ∙ sym (called .measure .ensures) ∙ ap measuredSize (c .enum-told .given .1))
+    stop t (called .before .before) (sym (called .measure2 .ensures) ∙ ap measuredSize (c .enum-told .given .1))
 
 -- an index fits
 add-i : (t : ℕ) → Of t lts.Need-add-i
@@ -247,46 +267,48 @@ loop-again : (t : ℕ) → Of t lts.Need-loop-again
 loop-again t c =
     ⊎-elim
     (λ w.
-    let counted : Of t lts.Else3 = record { before = record { before = c .before; if2 = w .0 }; if3 = w .1 } in
-    (joined t (c .before .before .before) .0, rw (w .2) (more t (c .before) 1 (one t counted))))
+    let counted : Of t lts.Else4 = record { before = record { before = c .before; if3 = w .0 }; if4 = w .1 } in
+    rw (w .2) (more t (c .before) 1 (one t counted)))
     (λ w.
-    let called : Of t lts.After-measure = record {
-      before = record { before = record { before = c .before; if2 = w .0 }; if4 = w .1 };
-      measure = w .2;
-    } in
+    let called : Of t lts.After-measure2 = record { before = record { before = c .before; if3 = w .0 }; measure2 = w .1 } in
     let fitted : Of t lts.After-measurement = record {
-      before = record { before = called; match = w .3 };
-      measurement = w .4;
+      before = record { before = called; match = w .2 };
+      measurement = w .3;
     } in
-    (joined t (c .before .before .before) .0, rw (w .6) (more t (c .before) _ (fits t fitted))))
-    (c .if2 .came)
+    rw (w .5) (more t (c .before) _ (fits t fitted)))
+    (c .if3 .came)
 
 -- every part was measured
-returns-4 : (t : ℕ) → Of t lts.Need-returns-4
-returns-4 t c = measuring-done (c .before .loop .inv .1) (c .loop-test .left)
+returns-5 : (t : ℕ) → Of t lts.Need-returns-5
+returns-5 t c =
+    let l = c .before in
+    measuring-done (l .loop .inv) (c .loop-test .left) ∙ sym (parts-decide t (l .before))
 
 pub +measure-spec : {M : Type 1} → statement M
 +measure-spec =
     close μ-measure λ t.
     lts.spec (claims t) (at t) reads.Post Inv-loop μ-loop
-    (loop-holds t)
-    (mul-t13 t)
-    (shared-slice-read-t16 t)
-    (is-syllable-requires t)
     (jamo-of-requires t)
-    (slice-aggregate-parts-of t)
-    (parts-of-requires t)
+    (slice-aggregate-parts-among t)
+    (parts-among-requires t)
+    (measure-requires t)
     (returns t)
-    (add-total t)
     (returns-2 t)
+    (loop-holds t)
+    (mul-t20 t)
+    (shared-slice-read-t23 t)
+    (entry-parts-requires t)
+    (decomposes-requires t)
+    (returns-3 t)
+    (add-total t)
     (sub-measure t)
     (sub-measure-2 t)
-    (measure-requires t)
+    (measure-requires-2 t)
     (enum-known-measurement t)
     (add-total-2 t)
     (enum-told t)
-    (returns-3 t)
+    (returns-4 t)
     (add-i t)
     (loop-less t)
     (loop-again t)
-    (returns-4 t)
+    (returns-5 t)

@@ -22,9 +22,8 @@ use Rattle.table.specs.Table.{Table, table, refusedAt, partsOf, mappingOf}
 use Rattle.table.proofs.Form.{formed-parts-at}
 use Rattle.decompose.specs.Levels.{full}
 use Rattle.decompose.specs.TableCheck.{unfolds, faultyLevel, faultySyllable, levelFault}
-use Rattle.decompose.specs.Promises.{measured, measuredParts, measuredSize}
-use Rattle.decompose.proofs.Walk.{parts-none, unfolds-whole, parts-some}
-use Rattle.decompose.proofs.Measuring.{measured-parts}
+use Rattle.decompose.specs.Promises.{measured, measuredSize}
+use Rattle.decompose.proofs.Walk.{parts-none, unfolds-whole, parts-some, split-listed}
 use Rattle.decompose.proofs.depth.check_levels.Statement.{statement}
 use Rattle.decompose.proofs.depth.check_levels.Tie as tie
 
@@ -78,16 +77,14 @@ loop-holds c = (search needs, below-none _)
 parts-at-requires : tie.Need-parts-at-requires Inv-loop μ-loop
 parts-at-requires c κs = search needs
 
-measure-requires : tie.Need-measure-requires Inv-loop μ-loop
-measure-requires c κs = start (head (c .before)) .pre
+code-at-requires : tie.Need-code-at-requires Inv-loop μ-loop
+code-at-requires c κs = search needs
 
--- where the entry has parts, its code point is measured by them
-by-parts : (c : tie.Then1 Inv-loop μ-loop) → let l = head (c .before) in
-    let m = mappingOf (lent l) in
-    measured m levelsMost fullMost (codeAt (lent l .entries) (l .loop .i))
-    ≡ measuredParts m (levelsMost - 1) fullMost (c .before .parts-at .result .now)
-by-parts c =
-    measured-parts (parts-some (taken (c .before)) (c .if1 .taken)) levelsMost fullMost (omega arith)
+-- the entry has parts, those of its code point
+measure-requires : tie.Need-measure-requires Inv-loop μ-loop
+measure-requires c κs =
+    let parted = c .before .before in
+    (start (head parted) .pre, rw (c .code-at .ensures) (split-listed (parts-some (taken parted) (c .before .if1 .taken))))
 
 enum-told : tie.Need-enum-told Inv-loop μ-loop
 enum-told c = search needs
@@ -99,12 +96,12 @@ refused-at-requires c κs = search needs
 returns : tie.Need-returns Inv-loop μ-loop
 returns c =
     let called = c .before .before .before in
-    let l = head (called .before .before) in
+    let read = called .before in
+    let l = head (read .before .before) in
     let t = lent l in
     let i = l .loop .i in
-    let measurement = by-parts (called .before) ∙ sym (called .measure .ensures)
-    ∙ ap measuredSize (c .before .enum-told .given .1) in
-    let faulty = too-much (mappingOf t) (codeAt (t .entries) i) measurement in
+    let measurement = sym (called .measure .ensures) ∙ ap measuredSize (c .before .enum-told .given .1) in
+    let faulty = too-much (mappingOf t) (codeAt (t .entries) i) (rw (read .code-at .ensures) at measurement) in
     let n = entryCount (t .entries) in
     let found = orElse-first _ _ i (lowest-is (faultyLevel t) n i (omega arith) faulty (l .loop .inv .1)) in
     ap checkOutcome (c .refused-at .ensures) ∙ sym (ap (λ (o : Option ℕ). answer (refusedAt 7 o) []) found)
@@ -127,7 +124,7 @@ loop-again c =
     let code = codeAt (lent l .entries) (l .loop .i) in
     let sound : faultyLevel (lent l) (l .loop .i) ≡ false =
     ⊎-elim
-    (λ w. fits m code _ (by-parts (record { before = parted; if1 = w .0 }) ∙ sym (w .1 .ensures) ∙ ap measuredSize (w .3 .given .1)))
+    (λ w. fits m code _ (rw (w .1 .ensures) at (sym (w .2 .ensures) ∙ ap measuredSize (w .4 .given .1))))
     (λ w. ap not (unfolds-whole m code (parts-none m code _ (taken parted) (w .left))))
     (c .if1 .came)
     in
@@ -176,6 +173,7 @@ check-levels-spec =
     entry-count-requires
     loop-holds
     parts-at-requires
+    code-at-requires
     measure-requires
     enum-told
     refused-at-requires

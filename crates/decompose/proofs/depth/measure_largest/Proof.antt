@@ -7,8 +7,9 @@ use mathlib.Core.Option.{some}
 use borrow.Author.Needs.{needs}
 use Rattle.table.specs.Mapping.{Mapping}
 use Rattle.table.specs.Table.{table, mappingOf}
-use Rattle.decompose.specs.Promises.{jamoLevels, measured, measuredSize, largest}
-use Rattle.decompose.proofs.Measuring.{measured-one}
+use Rattle.hangul.specs.Hangul.{sBase}
+use Rattle.hangul.proofs.Syllables.{syllable-below}
+use Rattle.decompose.specs.Promises.{measuredSize, largest}
 use Rattle.decompose.proofs.Syllables.{largest-start, largest-more, largest-stop}
 use Rattle.decompose.proofs.depth.measure_largest.Statement.{statement}
 use Rattle.decompose.proofs.depth.measure_largest.Tie as tie
@@ -24,36 +25,27 @@ abbrev μ-loop : tie.MeasureT-loop
 abbrev mapping : tie.Start Inv-loop μ-loop → Mapping
 mapping s = mappingOf (table (s .args .entries .now) (s .args .pool .now))
 
--- where a jamo was measured: the loop's head, the function's entry, and what was measured
-abbrev head : tie.After-measure Inv-loop μ-loop → tie.At-loop Inv-loop μ-loop
-head c = c .before .before .before
+-- where a jamo was measured: the loop's head, and the function's entry
+abbrev head : tie.After-measure-jamo Inv-loop μ-loop → tie.At-loop Inv-loop μ-loop
+head c = c .before .before
 
-abbrev start : tie.After-measure Inv-loop μ-loop → tie.Start Inv-loop μ-loop
+abbrev start : tie.After-measure-jamo Inv-loop μ-loop → tie.Start Inv-loop μ-loop
 start c = head c .before .before .before
-
-size : (c : tie.After-measure Inv-loop μ-loop) → let a = start c .args in
-    measured (mapping (start c)) jamoLevels (a .room) (a .from + head c .loop .i) ≡ measuredSize (c .measure .result)
-size c =
-    let a = start c .args in
-    sym (c .measure .ensures ∙ measured-one (mapping (start c)) jamoLevels (a .room) (a .from + head c .loop .i))
 
 -- before the first turn
 loop-holds : tie.Need-loop-holds Inv-loop μ-loop
 loop-holds c = let s = c .before .before in (omega arith, largest-start (mapping s) (s .args .room) (s .args .from))
 
--- no number wraps
+-- all are below the syllables
 below : (c : tie.In-loop Inv-loop μ-loop) → let s = c .before .before .before .before in
-    s .args .from + c .before .loop .i < 0x10FFFF
+    s .args .from + c .before .loop .i < sBase
 below c = omega (arith, c .loop-test .taken, c .before .before .before .before .pre .1)
 
-add-t12 : tie.Need-add-t12 Inv-loop μ-loop
-add-t12 c = omega (arith, below c)
+add-t11 : tie.Need-add-t11 Inv-loop μ-loop
+add-t11 c = omega (arith, below c)
 
-slice-aggregate-measure : tie.Need-slice-aggregate-measure Inv-loop μ-loop
-slice-aggregate-measure c = search needs
-
-measure-requires : tie.Need-measure-requires Inv-loop μ-loop
-measure-requires c κs = c .before .before .before .before .before .pre .0
+measure-jamo-requires : tie.Need-measure-jamo-requires Inv-loop μ-loop
+measure-jamo-requires c κs = (c .before .before .before .before .pre .0, syllable-below _ (below c))
 
 enum-known-measurement : tie.Need-enum-known-measurement Inv-loop μ-loop
 enum-known-measurement c = search needs
@@ -69,16 +61,16 @@ returns : tie.Need-returns Inv-loop μ-loop
 returns c =
     let called = c .before .before in
     let a = start called .args in
-    let none = size called ∙ ap measuredSize (c .enum-told .given .1) in
+    let none = sym (called .measure-jamo .ensures) ∙ ap measuredSize (c .enum-told .given .1) in
     sym (largest-stop (mapping (start called)) (a .room) (a .from) (head called .loop .i) none (a .count)
-    (called .before .before .loop-test .taken))
+    (called .before .loop-test .taken))
 
 -- an index fits
 add-i : tie.Need-add-i Inv-loop μ-loop
-add-i c = omega (arith, below (c .before .before .before .before .before .before))
+add-i c = omega (arith, below (c .before .before .before .before .before))
 
 loop-less : tie.Need-loop-less Inv-loop μ-loop
-loop-less c = omega (arith, c .before .before .before .before .before .before .loop-test .taken)
+loop-less c = omega (arith, c .before .before .before .before .before .loop-test .taken)
 
 -- one more that fits
 loop-again : tie.Need-loop-again Inv-loop μ-loop
@@ -87,9 +79,9 @@ loop-again c =
     let called = fitted .before .before in
     let l = head called in
     let a = start called .args in
-    let fits = size called ∙ ap measuredSize (fitted .measurement .given .1) in
+    let fits = sym (called .measure-jamo .ensures) ∙ ap measuredSize (fitted .measurement .given .1) in
     let more = largest-more (mapping (start called)) (a .room) (a .from) (l .loop .i) _ _ (l .loop .inv .1) fits in
-    (omega (arith, called .before .before .loop-test .taken), rw (c .larger-of .ensures) more)
+    (omega (arith, called .before .loop-test .taken), rw (c .larger-of .ensures) more)
 
 -- all fit
 returns-2 : tie.Need-returns-2 Inv-loop μ-loop
@@ -106,9 +98,8 @@ measure-largest-spec =
     Inv-loop
     μ-loop
     loop-holds
-    add-t12
-    slice-aggregate-measure
-    measure-requires
+    add-t11
+    measure-jamo-requires
     enum-known-measurement
     larger-of-requires
     enum-told
