@@ -1,6 +1,7 @@
--- `decompose::size_unfolded` meets its contract. It calls itself with the jamo of a syllable, and for each part that decomposes,
--- one level down; the measure of the recursion is twice the levels left, and one where there are no parts. The loop's invariant: the parts so far come to `octets` octets and, with the ask for
--- the parts, to `asked` asks (`Sizing`). The loop's measure is the number of parts that are left. Assumes nothing.
+-- `decompose::size_unfolded` meets its contract. It calls itself with the jamo of a syllable, and for each part that
+-- decomposes, one level down; the measure of the recursion is twice the levels left, and one more where there are no parts. The
+-- loop's invariant: the parts so far come to `octets` octets and, with the ask for the parts, to `asked` asks (`Sizing`). The
+-- loop's measure is the number of parts that are left. Assumes nothing.
 use Prim.Native.Nat.{ℕ, _+_, _-_, _*_, _≤_, _<_}
 use native.Mathlib.Omega.{arith}
 use mathlib.Core.Path.{_≡_, sym, ap, _∙_}

@@ -1,7 +1,8 @@
 -- `decompose::write_unfolded` meets its contract. It calls itself with the jamo of a syllable. A part that doesn't decompose is
 -- written where it stands; for any other the function calls itself, one level down; both are lent the slice from `at` on. The
--- measure of the recursion is twice the levels left, and one where there are no parts. The loop's invariant: the parts so far come to `at` octets and, with the ask for the parts, to `asks` asks, and the
--- slice begins with those octets (`Writing`). The loop's measure is the number of parts that are left. Assumes nothing.
+-- measure of the recursion is twice the levels left, and one more where there are no parts. The loop's invariant: the parts so
+-- far come to `at` octets and, with the ask for the parts, to `asks` asks, and the slice begins with those octets (`Writing`).
+-- The loop's measure is the number of parts that are left. Assumes nothing.
 use Prim.Native.Nat.{ℕ, _+_, _-_, _*_, _≤_, _<_}
 use native.Mathlib.Omega.{arith}
 use native.Mathlib.Nat.{le-refl}

@@ -150,7 +150,8 @@ returns-2 c =
     let called = c .before .before in
     let l = called .before .before in
     let t = lent l in
-    let faulty = not-false (faultySyllable (mappingOf t)) (sym (called .syllables-fit .ensures) ∙ not-true _ (c .before .if2 .taken)) in
+    let unfit = sym (called .syllables-fit .ensures) ∙ not-true _ (c .before .if2 .taken) in
+    let faulty = not-false (faultySyllable (mappingOf t)) unfit in
     let found = passed (called .before) ∙ ap (λ b. when b (entryCount (t .entries))) faulty
     ∙ ap some (sym (l .before .entry-count .ensures)) in
     ap checkOutcome (c .refused-at2 .ensures) ∙ sym (ap (λ (o : Option ℕ). answer (refusedAt 7 o) []) found)
