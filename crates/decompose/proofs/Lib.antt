@@ -4,6 +4,7 @@ pub mod Unfolds
 pub mod Whole
 pub mod Bounds
 pub mod Measuring
+pub mod Largest
 pub mod Syllables
 pub mod Unfolding
 pub mod Walk

@@ -10,7 +10,7 @@ use Rattle.table.specs.Table.{table, mappingOf}
 use Rattle.hangul.specs.Hangul.{sBase}
 use Rattle.hangul.proofs.Syllables.{syllable-below}
 use Rattle.decompose.specs.Promises.{measuredSize, largest}
-use Rattle.decompose.proofs.Syllables.{largest-start, largest-more, largest-stop}
+use Rattle.decompose.proofs.Largest.{largest-start, largest-more, largest-stop}
 use Rattle.decompose.proofs.depth.measure_largest.Statement.{statement}
 use Rattle.decompose.proofs.depth.measure_largest.Tie as tie
 

@@ -12,7 +12,8 @@ use Rattle.table.specs.Mapping.{Mapping}
 use Rattle.table.specs.Table.{table, mappingOf}
 use Rattle.table.proofs.Form.{partsOf-syllable}
 use Rattle.decompose.specs.Promises.{measuredSize, largest}
-use Rattle.decompose.proofs.Syllables.{largest-room, leading-faulty, vowel-faulty, trailing-faulty, jamo-sound}
+use Rattle.decompose.proofs.Largest.{largest-room}
+use Rattle.decompose.proofs.Syllables.{leading-faulty, vowel-faulty, trailing-faulty, jamo-sound}
 use Rattle.decompose.proofs.depth.syllables_fit.Statement.{statement}
 use Rattle.decompose.proofs.depth.syllables_fit.Tie as tie
 
