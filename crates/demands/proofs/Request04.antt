@@ -3,8 +3,7 @@
 -- Assumes nothing.
 use mathlib.Core.Path.{_≡_, refl, sym, ap, ap₂, _∙_}
 use Prim.Native.Nat.{ℕ, suc, _+_, _-_, _/_, _%_, _≤_, _<_}
-use native.Mathlib.Omega.{arith}
-use mathlib.Core.Bool.{Bool, true, false, cond, _&&_}
+use mathlib.Core.Bool.{Bool, true, false, cond, _&&_, true≢false}
 use mathlib.Core.Logic.{_↔_, inl, inr}
 use mathlib.Core.Option.{none, some}
 use mathlib.Core.List.{List, [], _∷_, _++_, map, append-nil}
@@ -32,12 +31,17 @@ use Rattle.decompose.specs.TableCheck.{tableRefusal, tableAnswer, UnfoldsWell, 
 use Rattle.decompose.proofs.SyllableSteps.{syllable-level, syllable-level-one, lookups-syllable, expanded-syllable}
 use Rattle.keys.specs.Keys.{keyOf}
 use Rattle.keys.proofs.Validity.{key-valid}
+use Rattle.prepare.specs.Calls.{Lent, call, Called}
+use Rattle.compare.specs.Compare.{equalityOutcome, equalityValues}
+use Rattle.compare.specs.declared.Equality.{Equality}
+use Rattle.compare.specs.declared.Equality.the-variants.{Match}
 use Rattle.ucd.specs.Lines.{Properties, LineSays}
 use Rattle.builder.specs.Builder.{Built, lineRefusal}
 use Rattle.demands.specs.Demands.{inJamo}
 use Rattle.demands.specs.Faults.{Syllable, HasMapping, Clear, fault3, fault28, LowestAt, WrongCode, readingFaults}
 use Rattle.demands.proofs.TableFaults.{syllable-exactly}
 use Rattle.demands.proofs.Demand1.{number-4, number-7, number-25}
+use Rattle.demands.proofs.Demand2.{equal-keys, equal-says}
 use Rattle.demands.proofs.Demand3.{check-every}
 
 -- ---- "Korean names in syllables don't meet the same names in jamo"
@@ -98,6 +102,17 @@ syllables-meet t ok own cs e =
     ∙ all-meet t ok own cs
     ∙ sym (steps-codes m cs)
     ∙ sym (key-valid m (encodes cs) (asCharacters cs) (characters-encodes cs e))
+
+-- so a call of `equal` on the two answers that they match, where it is not refused
+pub names-meet : {t : Table} {l m : Lent} {r : Equality} {after : List (List ℕ)}
+    → Called equalityOutcome equalityValues (call (some UnicodeCasemap) t (l ∷ m ∷ [])) r after → Given (equalityOutcome r)
+    → tableRefusal t ≡ none
+    → ((j : ℕ) → 0x1100 ≤ j → j ≤ 0x11C2 → mappingOf t .title j ≡ j)
+    → (cs : List ℕ) → all scalar cs ≡ true → l .text ≡ encodes (inJamo cs) → m .text ≡ encodes cs
+    → r ≡ Match
+names-meet {t} h answers ok own cs e first second =
+    let key : List ℕ → List ℕ = λ text. keyOf UnicodeCasemap (mappingOf t) text in
+    equal-keys (equal-says h answers) .1 (ap key first ∙ syllables-meet t ok own cs e ∙ sym (ap key second))
 
 -- ---- "for AC00 to D7A3, with s the distance from AC00, the parts are 1100 + s/588, 1161 + (s mod 588)/28 and, if s mod 28 isn't
 -- 0, 11A7 + s mod 28 (base numbers hex)."
@@ -174,9 +189,7 @@ syllable-entry t i clear l is lower =
 pub syllable-no-entry : (t : Table) → formRefusal t ≡ none → (i : ℕ) → i < entryCount (t .entries)
     → Syllable (codeAt (t .entries) i) → ⊥
 syllable-no-entry t form i l is =
-    let z : _≡_ {A = Bool} true false = sym (syllable-exactly (codeAt (t .entries) i) .1 is) ∙ formed-code t form i l in
-    let n : _≡_ {A = ℕ} 0 1 = cc in
-    omega arith
+    true≢false (sym (syllable-exactly (codeAt (t .entries) i) .1 is) ∙ formed-code t form i l)
 
 -- ---- "and a line with a mapping for one gets 25."
 
