@@ -6,7 +6,7 @@ use mathlib.Core.Option.{none, some}
 use lib.ListN.{length}
 use Rattle.terms.specs.Lists.{lowest, each, total}
 use Rattle.utf8.specs.Characters.{charactersAfter, charactersBy}
-use Rattle.utf8.specs.Utf8.{encode, trailed, decode, characters}
+use Rattle.utf8.specs.Utf8.{leadingOnes, announced, encode, trailed, decode, characters}
 use Rattle.hangul.specs.Hangul.{syllable}
 use Rattle.table.specs.Layout.{entryCount, wholeEntries, numberAt}
 use Rattle.table.specs.Table.{countsBelow, notAbove, formRefusal, entryOf, mappingOf}
@@ -29,7 +29,7 @@ unfolding lowest each total entryCount wholeEntries numberAt countsBelow notAbov
 widest-accepted = rw widest-syllables
 
 widest-valid : characters widestText ≡ some widestCharacters
-unfolding trailed decode charactersAfter charactersBy
+unfolding leadingOnes announced trailed decode charactersAfter charactersBy
 widest-valid = refl
 
 widest-lookups : stepsLookups (mappingOf widest) widestCharacters ≡ 258

@@ -8,7 +8,7 @@ use mathlib.Core.Option.{none, some}
 use Rattle.terms.specs.Lists.{lowest, each, total, begins}
 use Rattle.terms.specs.Refusals.{refusal}
 use Rattle.utf8.specs.Characters.{charactersAfter, charactersBy}
-use Rattle.utf8.specs.Utf8.{encode, trailed, decode}
+use Rattle.utf8.specs.Utf8.{leadingOnes, announced, encode, trailed, decode}
 use Rattle.octets.specs.Order.{orderOf}
 use Rattle.table.specs.Layout.{entryCount, wholeEntries, numberAt}
 use Rattle.hangul.specs.Hangul.{syllable}
@@ -40,5 +40,5 @@ refused-7 = refl
 
 -- the claim
 pub starred-hold : map (λ (e : Example). e .asked) starred ≡ map (λ (e : Example). e .said) starred
-unfolding lowest each total begins encode trailed decode charactersAfter charactersBy entryCount numberAt syllable entryOf full asks stepsKey stepsLookups callRefusal orderOf occurrence holder covering substringValues starred
+unfolding lowest each total begins leadingOnes announced encode trailed decode charactersAfter charactersBy entryCount numberAt syllable entryOf full asks stepsKey stepsLookups callRefusal orderOf occurrence holder covering substringValues starred
 starred-hold = rw (accepted, refused-7)

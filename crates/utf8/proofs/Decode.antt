@@ -2,20 +2,24 @@
 -- scalar code point whose octets the text begins with; so no code point's octets begin another's.
 -- Assumes nothing.
 use mathlib.Core.Path.{_≡_, refl, sym, _∙_, ap, subst}
-use mathlib.Core.Bool.{Bool, true, false, _&&_, not}
-use mathlib.Core.Option.{none, some}
+use mathlib.Core.Bool.{true, true≢false, _&&_, not}
+use mathlib.Core.Option.{Option, none, some}
 use mathlib.Core.List.{List, [], _∷_, _++_}
-use Prim.Native.Nat.{ℕ, suc, _-_, _≤_, _<_}
+use Prim.Native.Nat.{ℕ, zero, suc, _+_, _-_, _≤_, _<_}
 use native.Mathlib.Decide.{decLt}
 use native.Mathlib.Omega.{arith}
-use lib.Dec.{leb, ltb}
-use lib.ListN.{length, drop}
-use lib.Seq.{drop-append-seam}
-use borrow.Author.Tests.{ltb-true, ltb-false, lt-ltb, le-ltb, le-leb, lt-leb}
+use lib.Dec.{leb}
+use lib.ListN.{length, take, drop, getD, drop-of-length-le}
+use lib.Seq.{drop-cons, drop-append-seam}
+use borrow.Author.Tests.{le-leb, lt-leb, ne-eqb}
+use Rattle.terms.specs.Lists.{there}
+use Rattle.terms.proofs.Parts.{drop-part}
 use Rattle.terms.proofs.Tests.{join, none-some}
-use Rattle.utf8.specs.Utf8.{scalar, encode, Character, character, trailed, taken, decode}
+use Rattle.utf8.specs.Utf8.{scalar, encode, Character, character, trailed, taken, announced, sequence, decode}
+use Rattle.utf8.specs.Promises.{lengthSaid}
 use Rattle.utf8.proofs.Encode.{encode-one, scalar-most, highBits, trailing, length-trailing, Lead, leadsTwo}
 use Rattle.utf8.proofs.Encode.{leadsThree, leadsFour, encode-longer, longer}
+use Rattle.utf8.proofs.Lengths.{announced-one, announced-lead, Says, alone, leads, beginsNone, says}
 use Rattle.utf8.proofs.Trailed.{trailed-trailing, trailed-some, taken-yes, taken-some}
 
 -- ---- decode by the first octet
@@ -25,48 +29,50 @@ pub decode-nil : decode [] ≡ none
 unfolding decode
 decode-nil = refl
 
--- it says one octet
+-- a character stands before the end
+pub decode-stands : (t : List ℕ) (i : ℕ) → there (decode (drop i t)) ≡ true → i < length t
+decode-stands t i h = by (decLt i (length t))
+  where
+    by : Dec (i < length t) → i < length t
+    by (yes l) = l
+    by (no l) =
+        let past : drop i t ≡ [] = drop-of-length-le t {i = i} (omega arith) in
+        absurd (true≢false (sym h ∙ ap there (ap decode past ∙ decode-nil)))
+
+-- it announces a length, or none
+pub decode-first : (a : ℕ) (t : List ℕ) (o : Option ℕ) → announced a ≡ o → decode (a ∷ t) ≡ sequence o a t
+unfolding decode
+decode-first a t o e = rw e
+
+-- the same at a place of a text, before the part that follows the octet there; 0 says that it announces none
+abbrev pub RowAt : List ℕ → ℕ → ℕ → Type 0
+RowAt t i n = decode (drop i t) ≡ sequence (lengthSaid n) (getD t i 0) (take (length t - (i + 1)) (drop (i + 1) t))
+
+pub decode-at : (t : List ℕ) (i n : ℕ) → i < length t → lengthSaid n ≡ announced (getD t i 0) → RowAt t i n
+decode-at t i n h e =
+    ap decode (drop-part i t h) ∙ decode-first (getD t i 0) (take (length t - (i + 1)) (drop (i + 1) t)) (lengthSaid n) (sym e)
+
+-- one octet
 pub decode-one : (a : ℕ) (t : List ℕ) → a < 0x80 → decode (a ∷ t) ≡ some (character a 1)
-unfolding decode
-decode-one a t h = simp (lt-ltb a 0x80 h)
+decode-one a t h = decode-first a t (some 1) (announced-one a h)
 
--- it is one that trails
-pub decode-trail : (a : ℕ) (t : List ℕ) → 0x80 ≤ a → a < 0xC0 → decode (a ∷ t) ≡ none
-unfolding decode
-decode-trail a t l h = simp (le-ltb a 0x80 l, lt-ltb a 0xC0 h)
+-- more: the row of the table, by the bits that the octet carries
+sequence-lead : (a x n least : ℕ) (t : List ℕ) → Lead a x n least
+    → sequence (some (suc n)) a t ≡ taken (suc n) least (trailed n x t)
+sequence-lead a x n least t (leadsTwo e h) = let bits : a - 0xC0 ≡ x = omega arith in rw bits
+sequence-lead a x n least t (leadsThree e h) = let bits : a - 0xE0 ≡ x = omega arith in rw bits
+sequence-lead a x n least t (leadsFour e h) = let bits : a - 0xF0 ≡ x = omega arith in rw bits
 
--- it says two octets or more
 pub decode-longer : (a x n least : ℕ) (t : List ℕ) → Lead a x n least → decode (a ∷ t) ≡ taken (suc n) least (trailed n x t)
-unfolding decode
-decode-longer a x n least t (leadsTwo e h) =
-    let bits : a - 0xC0 ≡ x = omega arith in
-    simp (le-ltb a 0x80 (omega arith), le-ltb a 0xC0 (omega arith), lt-ltb a 0xE0 (omega arith), bits)
-decode-longer a x n least t (leadsThree e h) =
-    let bits : a - 0xE0 ≡ x = omega arith in
-    simp
-    (le-ltb a 0x80 (omega arith), le-ltb a 0xC0 (omega arith), le-ltb a 0xE0 (omega arith), lt-ltb a 0xF0 (omega arith), bits)
-decode-longer a x n least t (leadsFour e h) =
-    let bits : a - 0xF0 ≡ x = omega arith in
-    simp (
-      le-ltb a 0x80 (omega arith),
-      le-ltb a 0xC0 (omega arith),
-      le-ltb a 0xE0 (omega arith),
-      le-ltb a 0xF0 (omega arith),
-      lt-ltb a 0xF8 (omega arith),
-      bits,
-    )
+decode-longer a x n least t lead =
+    decode-first a t (some (suc n)) (announced-lead a x n least lead) ∙ sequence-lead a x n least t lead
 
--- it says nothing
-pub decode-high : (a : ℕ) (t : List ℕ) → 0xF8 ≤ a → decode (a ∷ t) ≡ none
-unfolding decode
-decode-high a t l =
-    simp (
-      le-ltb a 0x80 (omega arith),
-      le-ltb a 0xC0 (omega arith),
-      le-ltb a 0xE0 (omega arith),
-      le-ltb a 0xF0 (omega arith),
-      le-ltb a 0xF8 l,
-    )
+-- no row is for another length
+pub sequence-other : (n a : ℕ) (t : List ℕ) → (n ≡ 1 → ⊥) → (n ≡ 2 → ⊥) → (n ≡ 3 → ⊥) → (n ≡ 4 → ⊥)
+    → sequence (lengthSaid n) a t ≡ none
+sequence-other zero a t one two three four = refl
+sequence-other (suc n) a t one two three four =
+    simp (ne-eqb (suc n) 1 one, ne-eqb (suc n) 2 two, ne-eqb (suc n) 3 three, ne-eqb (suc n) 4 four)
 
 -- ---- what is encoded decodes
 
@@ -129,22 +135,33 @@ sound-longer a x n least t ch lead e =
 -- what decodes is a scalar code point, and the text begins with its octets
 pub decode-sound : (t : List ℕ) (ch : Character) → decode t ≡ some ch → Decoded t ch
 decode-sound [] ch e = absurd (none-some ch (sym decode-nil ∙ e))
-decode-sound (a ∷ t) ch e = by (ltb a 0x80) (ltb a 0xC0) (ltb a 0xE0) (ltb a 0xF0) (ltb a 0xF8) refl refl refl refl refl
+decode-sound (a ∷ t) ch e = by (announced a) refl (says a)
   where
-    by : (p q r s u : Bool) → ltb a 0x80 ≡ p → ltb a 0xC0 ≡ q → ltb a 0xE0 ≡ r → ltb a 0xF0 ≡ s → ltb a 0xF8 ≡ u
-        → Decoded (a ∷ t) ch
-    by true q r s u f g h k m = sound-one a t ch (ltb-true a 0x80 f) e
-    by false true r s u f g h k m =
-        absurd (none-some ch (sym (decode-trail a t (ltb-false a 0x80 f) (ltb-true a 0xC0 g)) ∙ e))
-    by false false true s u f g h k m =
-        sound-longer a (a - 0xC0) 1 0x80 t ch (leadsTwo (omega (arith, ltb-false a 0xC0 g)) (omega (arith, ltb-true a 0xE0 h))) e
-    by false false false true u f g h k m =
-        sound-longer a (a - 0xE0) 2 0x800 t ch
-        (leadsThree (omega (arith, ltb-false a 0xE0 h)) (omega (arith, ltb-true a 0xF0 k))) e
-    by false false false false true f g h k m =
-        sound-longer a (a - 0xF0) 3 0x10000 t ch
-        (leadsFour (omega (arith, ltb-false a 0xF0 k)) (omega (arith, ltb-true a 0xF8 m))) e
-    by false false false false false f g h k m = absurd (none-some ch (sym (decode-high a t (ltb-false a 0xF8 m)) ∙ e))
+    by : (o : Option ℕ) → announced a ≡ o → Says a o → Decoded (a ∷ t) ch
+    by o is (alone h) = sound-one a t ch h e
+    by o is (leads x n least lead) = sound-longer a x n least t ch lead e
+    by o is beginsNone = absurd (none-some ch (sym (decode-first a t none is) ∙ e))
+
+-- a character is as long as its first octet announces
+pub decode-announced : (a : ℕ) (t : List ℕ) (ch : Character) → decode (a ∷ t) ≡ some ch → announced a ≡ some (ch .width)
+decode-announced a t ch e = by (announced a) refl (says a)
+  where
+    by : (o : Option ℕ) → announced a ≡ o → Says a o → announced a ≡ some (ch .width)
+    by o is (alone h) =
+        let one = decode-one a t h in
+        let ch-is : character a 1 ≡ ch = cc in
+        is ∙ ap (λ (x : Character). some (x .width)) ch-is
+    by o is (leads x n least lead) =
+        let q = taken-some (suc n) least (trailed n x t) ch (sym (decode-longer a x n least t lead) ∙ e) in
+        is ∙ ap (λ (x : Character). some (x .width)) (q .4)
+    by o is beginsNone = absurd (none-some ch (sym (decode-first a t none is) ∙ e))
+
+-- wherever it stands
+pub decode-announced-at : (t : List ℕ) (i : ℕ) (ch : Character) → decode (drop i t) ≡ some ch
+    → announced (getD t i 0) ≡ some (ch .width)
+decode-announced-at t i ch e =
+    let starts = drop-cons t i 0 (decode-stands t i (ap there e)) in
+    decode-announced (getD t i 0) (drop (suc i) t) ch (sym (ap decode starts) ∙ e)
 
 -- ---- no code point's octets begin another's
 

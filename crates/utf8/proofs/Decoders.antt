@@ -1,18 +1,18 @@
 -- The characters of a text over every decoder:
 -- the first of them and the others (`characters-cons`), and where there are none (`characters-empty`);
--- how many there are (`characters-count`), and that they are scalar (`characters-scalars`);
+-- how many there are (`characters-count`), that they are scalar (`characters-scalars`), and where each stands (`characters-at`);
 -- and from a place of a text on, as a walk meets them: the next one, those after it, and the end.
 -- Assumes nothing.
 use mathlib.Core.Path.{_≡_, refl, sym, _∙_, ap}
 use mathlib.Core.Bool.{true}
 use mathlib.Core.Option.{Option, none, some}
-use mathlib.Core.List.{List, [], _∷_}
+use mathlib.Core.List.{List, [], _∷_, _++_}
 use Prim.Native.Nat.{ℕ, _+_, _≤_, _<_}
 use native.Mathlib.Omega.{arith}
 use lib.ListN.{length, drop, length-drop, drop-of-length-le}
 use lib.Seq.{drop-drop}
 use Rattle.terms.specs.CodePoints.{scalar}
-use Rattle.terms.specs.Lists.{all, there}
+use Rattle.terms.specs.Lists.{all, there, total}
 use Rattle.terms.proofs.Lists.{all-cons}
 use Rattle.terms.proofs.Tests.{none-some}
 use Rattle.utf8.specs.Characters.{Character, codesOf, Decoder, Decodes, prepend, charactersBy, characters-nil}
@@ -82,6 +82,17 @@ module _ {decode : Decoder} (d : Decodes decode) where
   characters-scalars t (ch ∷ chs) e =
       let f = characters-cons t ch chs e in
       all-cons scalar (ch .code) (codesOf chs) (d .scalars t ch (f .0)) (characters-scalars (drop (ch .width) t) chs (f .1))
+
+  -- each stands after those before it
+  pub characters-at : (before : List Character) (t : List ℕ) (ch : Character) (after : List Character)
+      → charactersBy decode t ≡ some (before ++ ch ∷ after)
+      → decode (drop (total (λ (x : Character). x .width) before) t) ≡ some ch
+  unfolding total
+  characters-at [] t ch after e = characters-cons t ch after e .0
+  characters-at (b ∷ before) t ch after e =
+      let more = total (λ (x : Character). x .width) before in
+      sym (ap decode (drop-drop more (b .width) t))
+      ∙ characters-at before (drop (b .width) t) ch after (characters-cons t b (before ++ ch ∷ after) e .1)
 
   -- ---- from a place of a text on
 

@@ -2,13 +2,14 @@
 -- and octets that trail with six bits each.
 -- Assumes nothing.
 use mathlib.Core.Path.{_≡_, refl, _∙_, ap}
-use mathlib.Core.Bool.{Bool, true, false, _&&_, not}
+use mathlib.Core.Bool.{true, _&&_, not}
 use mathlib.Core.List.{List, [], _∷_}
 use Prim.Native.Nat.{ℕ, zero, suc, _+_, _*_, _/_, _%_, _≤_, _<_}
+use native.Mathlib.Decide.{decLt}
 use native.Mathlib.Omega.{arith}
-use lib.Dec.{leb, ltb}
+use lib.Dec.{leb}
 use lib.ListN.{length}
-use borrow.Author.Tests.{ltb-true, ltb-false, leb-true, lt-ltb, le-ltb}
+use borrow.Author.Tests.{leb-true, lt-ltb, le-ltb}
 use Rattle.terms.proofs.Tests.{both}
 use Rattle.utf8.specs.Utf8.{scalar, encode}
 
@@ -39,46 +40,19 @@ pub encode-four : (c : ℕ)
 unfolding encode
 encode-four c l = simp (le-ltb c 0x80 (omega arith), le-ltb c 0x800 (omega arith), le-ltb c 0x10000 l)
 
--- which of the four widths a code point has
-pub data Width (c : ℕ) : Type 0 where
-  inOne : c < 0x80 → Width c
-  inTwo : 0x80 ≤ c → c < 0x800 → Width c
-  inThree : 0x800 ≤ c → c < 0x10000 → Width c
-  inFour : 0x10000 ≤ c → Width c
-
-widthFrom : (c : ℕ) (p q r : Bool) → ltb c 0x80 ≡ p → ltb c 0x800 ≡ q → ltb c 0x10000 ≡ r → Width c
-widthFrom c true q r e f g = inOne (ltb-true c 0x80 e)
-widthFrom c false true r e f g = inTwo (ltb-false c 0x80 e) (ltb-true c 0x800 f)
-widthFrom c false false true e f g = inThree (ltb-false c 0x800 f) (ltb-true c 0x10000 g)
-widthFrom c false false false e f g = inFour (ltb-false c 0x10000 g)
-
--- every code point has one of the four widths
-pub widthOf : (c : ℕ) → Width c
-widthOf c = widthFrom c (ltb c 0x80) (ltb c 0x800) (ltb c 0x10000) refl refl refl
-
-widthBounds : (c : ℕ) → Width c → (1 ≤ length (encode c)) × (length (encode c) ≤ 4)
-widthBounds c (inOne h) = omega (arith, ap length (encode-one c h))
-widthBounds c (inTwo l h) = omega (arith, ap length (encode-two c l h))
-widthBounds c (inThree l h) = omega (arith, ap length (encode-three c l h))
-widthBounds c (inFour l) = omega (arith, ap length (encode-four c l))
-
 -- a code point has one to four octets
 pub encode-width : (c : ℕ) → (1 ≤ length (encode c)) × (length (encode c) ≤ 4)
-encode-width c = widthBounds c (widthOf c)
+encode-width c = by (decLt c 0x80) (decLt c 0x800) (decLt c 0x10000)
+  where
+    by : Dec (c < 0x80) → Dec (c < 0x800) → Dec (c < 0x10000) → (1 ≤ length (encode c)) × (length (encode c) ≤ 4)
+    by (yes h) q r = omega (arith, ap length (encode-one c h))
+    by (no l) (yes h) r = omega (arith, ap length (encode-two c (omega arith) h))
+    by (no l) (no m) (yes h) = omega (arith, ap length (encode-three c (omega arith) h))
+    by (no l) (no m) (no n) = omega (arith, ap length (encode-four c (omega arith)))
 
 -- a scalar code point is at most 10FFFF
 pub scalar-most : (c : ℕ) → scalar c ≡ true → c ≤ 0x10FFFF
 scalar-most c s = leb-true c 0x10FFFF (both (leb c 0x10FFFF) (not (leb 0xD800 c && leb c 0xDFFF)) s .0)
-
--- a number is its six-bit parts
-pub sixes : (c : ℕ) → c / 262144 * 262144 + c / 4096 % 64 * 4096 + c / 64 % 64 * 64 + c % 64 ≡ c
-sixes c =
-    let p : c / 4096 ≡ c / 64 / 64 = omega arith in
-    let q : c / 262144 ≡ c / 4096 / 64 = omega arith in
-    let r : c / 4096 / 64 * 64 + c / 4096 % 64 ≡ c / 4096 = omega arith in
-    let u : c / 64 / 64 * 64 + c / 64 % 64 ≡ c / 64 = omega arith in
-    let v : c / 64 * 64 + c % 64 ≡ c = omega arith in
-    omega arith
 
 -- ---- over every width
 
@@ -125,12 +99,12 @@ pub record Longer (c : ℕ) : Type 0 where
   pub enough : least ≤ c
 
 pub longer : (c : ℕ) → 0x80 ≤ c → c ≤ 0x10FFFF → Longer c
-longer c l m = by (widthOf c)
+longer c l m = by (decLt c 0x800) (decLt c 0x10000)
   where
-    by : Width c → Longer c
-    by (inOne h) = absurd (omega arith)
-    by (inTwo l h) = record { first = 0xC0 + c / 64; count = 1; least = 0x80; lead = leadsTwo refl (omega arith); enough = l }
-    by (inThree l h) =
-        record { first = 0xE0 + c / 64 / 64; count = 2; least = 0x800; lead = leadsThree refl (omega arith); enough = l }
-    by (inFour l) =
-        record { first = 0xF0 + c / 64 / 64 / 64; count = 3; least = 0x10000; lead = leadsFour refl (omega arith); enough = l }
+    by : Dec (c < 0x800) → Dec (c < 0x10000) → Longer c
+    by (yes h) q = record { first = 0xC0 + c / 64; count = 1; least = 0x80; lead = leadsTwo refl (omega arith); enough = l }
+    by (no k) (yes h) =
+        record { first = 0xE0 + c / 64 / 64; count = 2; least = 0x800; lead = leadsThree refl (omega arith); enough = omega arith }
+    by (no k) (no h) =
+        let top = 0xF0 + c / 64 / 64 / 64 in
+        record { first = top; count = 3; least = 0x10000; lead = leadsFour refl (omega arith); enough = omega arith }

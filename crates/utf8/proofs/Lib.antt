@@ -2,5 +2,6 @@ pub mod Characters
 pub mod Decode
 pub mod Decoders
 pub mod Encode
-pub mod Places
+pub mod Joining
+pub mod Lengths
 pub mod Trailed

@@ -1,17 +1,16 @@
 -- Octets that trail: which do (`trails`), what they come to, by places and over every width (`trailed`), and which code points
 -- are `taken`.
 -- Assumes nothing.
-use mathlib.Core.Path.{_≡_, refl, _∙_, ap}
-use mathlib.Core.Bool.{Bool, true, false, cond, _&&_}
+use mathlib.Core.Path.{_≡_, refl, sym, _∙_, ap}
+use mathlib.Core.Bool.{Bool, true, false, true≢false, cond, _&&_}
 use mathlib.Core.Option.{Option, none, some}
 use mathlib.Core.List.{List, [], _∷_, _++_}
 use Prim.Native.Nat.{ℕ, zero, suc, _+_, _-_, _*_, _/_, _%_, _≤_, _<_}
 use native.Mathlib.Omega.{arith}
 use lib.Dec.{leb, ltb}
-use lib.ListN.{length, drop, getD}
-use lib.Seq.{drop-cons}
+use lib.ListN.{length, drop}
 use borrow.Author.Tests.{ltb-true, leb-true, lt-ltb, le-leb}
-use Rattle.terms.specs.Lists.{when}
+use Rattle.terms.specs.Lists.{there, when}
 use Rattle.terms.proofs.Tests.{both, join, none-some}
 use Rattle.utf8.specs.Utf8.{scalar, Character, character, trails, trailed, taken}
 use Rattle.utf8.proofs.Encode.{highBits, trailing}
@@ -38,7 +37,7 @@ trails-bounds b e =
     (leb-true 0x80 b (h .0), ltb-true b 0xC0 (h .1))
 
 -- and such an octet trails
-trails-yes : (b : ℕ) → Between b → trails b ≡ true
+pub trails-yes : (b : ℕ) → Between b → trails b ≡ true
 trails-yes b h = join (leb 0x80 b) (ltb b 0xC0) (le-leb 0x80 b (h .0)) (lt-ltb b 0xC0 (h .1))
 
 -- ---- trailed
@@ -52,17 +51,6 @@ trailed-zero x t = refl
 trailed-cons : (n x b y : ℕ) (t : List ℕ) → trails b ≡ true → x * 64 + (b - 0x80) ≡ y → trailed (suc n) x (b ∷ t) ≡ trailed n y t
 unfolding trailed
 trailed-cons n x b y t p e = rw (p, e)
-
--- or at a place, where it trails
-pub trailed-more : (n i x b y : ℕ) (t : List ℕ) → i < length t → b ≡ getD t i 0 → trails b ≡ true → x * 64 + (b - 0x80) ≡ y
-    → trailed (suc n) x (drop i t) ≡ trailed n y (drop (suc i) t)
-trailed-more n i x b y t h is p e = rw (drop-cons t i 0 h, ← is) (trailed-cons n x b y (drop (suc i) t) p e)
-
--- or does not
-pub trailed-stops : (n i x b : ℕ) (t : List ℕ) → i < length t → b ≡ getD t i 0 → trails b ≡ false
-    → trailed (suc n) x (drop i t) ≡ none
-unfolding trailed
-trailed-stops n i x b t h is p = rw (drop-cons t i 0 h, ← is, p)
 
 -- too few octets
 pub trailed-short : (n x : ℕ) (t : List ℕ) → length t < n → trailed n x t ≡ none
@@ -111,3 +99,16 @@ taken-some w least (some c) ch e =
     let h = when-some (leb least c && scalar c) (character c w) ch e in
     let k = both (leb least c) (scalar c) (h .0) in
     (c, refl, leb-true least c (k .0), k .1, h .1)
+
+-- of what is taken there is a code point
+pub taken-there : (w least : ℕ) (o : Option ℕ) → there (taken w least o) ≡ true → there o ≡ true
+taken-there w least none h = h
+taken-there w least (some c) h = refl
+
+-- and it is that one
+pub taken-is : (w least c : ℕ) (o : Option ℕ) → there (taken w least o) ≡ true → some c ≡ o → some (character c w) ≡ taken w least o
+taken-is w least c o h e = rw (← e) (by (leb least c && scalar c) (rw (← e) at h))
+  where
+    by : (b : Bool) → there (when b (character c w)) ≡ true → some (character c w) ≡ when b (character c w)
+    by true h = refl
+    by false h = absurd (true≢false (sym h))

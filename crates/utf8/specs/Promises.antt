@@ -1,7 +1,7 @@
 -- What the contracts of the crate say with the definitions of specs/Utf8.antt.
 -- Assumes nothing.
 use mathlib.Core.Path.{_≡_}
-use Prim.Native.Nat.{ℕ}
+use Prim.Native.Nat.{ℕ, zero, suc}
 use mathlib.Core.Option.{Option, none, some}
 use mathlib.Core.List.{List}
 use lib.ListN.{length}
@@ -10,6 +10,11 @@ use Rattle.utf8.specs.Utf8.{Character, character, encode}
 use Rattle.utf8.specs.declared.Reading.{Reading}
 use Rattle.utf8.specs.declared.Reading.the-variants.{Character as Read, Malformed}
 use Rattle.utf8.specs.declared.DecodedCharacter.{DecodedCharacter}
+
+-- the length that a number says, where 0 says that there is none
+abbrev pub lengthSaid : ℕ → Option ℕ
+lengthSaid zero = none
+lengthSaid (suc n) = some (suc n)
 
 -- the character that a reading is, if it is one
 abbrev pub characterRead : Reading → Option Character

@@ -4,13 +4,13 @@ use terms::CodePoint;
 use terms::TextPosition;
 ghost use mathlib.Core.Path.{_≡_};
 ghost use mathlib.Core.Bool.{true};
-ghost use Prim.Native.Nat.{_≤_, _<_};
+ghost use Prim.Native.Nat.{_-_, _≤_, _<_};
 ghost use mathlib.Core.Option.{some};
-ghost use mathlib.Core.List.{_∷_};
+ghost use lib.Dec.{eqb};
 ghost use lib.ListN.{length, drop};
 ghost use Rattle.terms.specs.Lists.{there};
-ghost use Rattle.utf8.specs.Utf8.{encode, decode, characters, trails, trailed, taken};
-ghost use Rattle.utf8.specs.Promises.{characterRead, characterOf, Written};
+ghost use Rattle.utf8.specs.Utf8.{leadingOnes, announced, encode, decode, characters, trails, trailed, taken};
+ghost use Rattle.utf8.specs.Promises.{lengthSaid, characterRead, characterOf, Written};
 
 // A character that was read: its code point, and how many octets it takes.
 pub struct DecodedCharacter {
@@ -24,34 +24,28 @@ pub fn read_valid(text: &[u8], at: TextPosition) -> DecodedCharacter
     ensures { λ r. ⌜ some (characterOf r) ≡ decode (drop (at .0) (now (text .entry))) ⌝ }
 {
     let i = at.0;
-    let a = wide(text[i]);
-    if a < 0x80 {
-        return DecodedCharacter {
+    let first = text[i];
+    let a = first as u32;
+    let rest = &text[i + 1..];
+    let width = sequence_length(first);
+    match width {
+        1 => DecodedCharacter {
             code: CodePoint(a),
             width: 1,
-        };
-    }
-    let b = wide(text[i + 1]) - 0x80;
-    if a < 0xE0 {
-        let code = (a - 0xC0) * 64 + b;
-        return DecodedCharacter {
-            code: CodePoint(code),
-            width: 2,
-        };
-    }
-    let c = wide(text[i + 2]) - 0x80;
-    if a < 0xF0 {
-        let code = (a - 0xE0) * 4096 + b * 64 + c;
-        return DecodedCharacter {
-            code: CodePoint(code),
+        },
+        3 => DecodedCharacter {
+            code: CodePoint(join(2, a - 0xE0, rest)),
             width: 3,
-        };
-    }
-    let d = wide(text[i + 3]) - 0x80;
-    let code = (a - 0xF0) * 262144 + b * 4096 + c * 64 + d;
-    DecodedCharacter {
-        code: CodePoint(code),
-        width: 4,
+        },
+        4 => DecodedCharacter {
+            code: CodePoint(join(3, a - 0xF0, rest)),
+            width: 4,
+        },
+        // Two: of a character no other length is left. As the last arm it costs one comparison less.
+        _ => DecodedCharacter {
+            code: CodePoint(join(1, a - 0xC0, rest)),
+            width: 2,
+        },
     }
 }
 
@@ -136,18 +130,48 @@ fn read_character(text: &[u8], at: TextPosition) -> Reading
     if text.len() <= i {
         return Reading::Malformed;
     }
-    let a = wide(text[i]);
-    if a < 0x80 {
-        return Reading::Character(CodePoint(a), 1);
+    let first = text[i];
+    let a = first as u32;
+    let rest = &text[i + 1..];
+    let width = sequence_length(first);
+    match width {
+        1 => Reading::Character(CodePoint(a), 1),
+        2 => read_longer(2, 0x80, a - 0xC0, rest),
+        3 => read_longer(3, 0x800, a - 0xE0, rest),
+        4 => read_longer(4, 0x10000, a - 0xF0, rest),
+        _ => Reading::Malformed,
     }
-    read_longer(a, &text[i + 1..])
 }
 
-// An octet as a number of 32 bits.
-fn wide(octet: u8) -> u32
-    ensures { λ r. ⌜ r ≡ octet ⌝ }
+// How many octets the sequence has that an octet begins, by its leading ones (RFC 3629, section 3); 0 where it begins none.
+fn sequence_length(first: u8) -> usize
+    ensures { λ r. ⌜ lengthSaid r ≡ announced first ⌝ }
 {
-    octet as u32
+    if is_ascii(first) {
+        return 1;
+    }
+    // The count is compared, each time with <, and goes nowhere else: the compiler then compares the octet and counts nothing.
+    let ones = u8::leading_zeros(!first);
+    if ones < 2 {
+        return 0;
+    }
+    if ones < 3 {
+        return 2;
+    }
+    if ones < 4 {
+        return 3;
+    }
+    if ones < 5 {
+        return 4;
+    }
+    0
+}
+
+// Whether an octet is a character by itself: it has no leading one.
+fn is_ascii(octet: u8) -> bool
+    ensures { λ r. ⌜ r ≡ eqb (leadingOnes 8 octet) 0 ⌝ }
+{
+    u8::leading_zeros(!octet) == 0
 }
 
 // Whether an octet continues a character.
@@ -173,77 +197,42 @@ fn accept(width: usize, least: u32, c: u32) -> Reading
     Reading::Malformed
 }
 
-// The character of more than one octet that the octet `a` begins and `rest` goes on.
-fn read_longer(a: u32, rest: &[u8]) -> Reading
-    requires { ⌜ 0x80 ≤ a ⌝ }
-    ensures { λ r. ⌜ characterRead r ≡ decode (a ∷ now (rest .entry)) ⌝ }
+// The character of `width` octets whose first carries `bits` and whose others `rest` begins with, if it is at least `least`.
+fn read_longer(width: usize, least: u32, bits: u32, rest: &[u8]) -> Reading
+    requires { ⌜ 2 ≤ width ⌝ }
+    requires { ⌜ width ≤ 4 ⌝ }
+    requires { ⌜ bits < 0x20 ⌝ }
+    ensures { λ r. ⌜ characterRead r ≡ taken width least (trailed (width - 1) bits (now (rest .entry))) ⌝ }
 {
-    if a < 0xC0 {
+    let count = width - 1;
+    if rest.len() < count {
         return Reading::Malformed;
     }
-    if a < 0xE0 {
-        return read_two(a - 0xC0, rest);
-    }
-    if a < 0xF0 {
-        return read_three(a - 0xE0, rest);
-    }
-    if a < 0xF8 {
-        return read_four(a - 0xF0, rest);
-    }
-    Reading::Malformed
-}
-
-// The character of two octets whose first carries the bits x.
-fn read_two(x: u32, rest: &[u8]) -> Reading
-    requires { ⌜ x < 0x20 ⌝ }
-    ensures { λ r. ⌜ characterRead r ≡ taken 2 0x80 (trailed 1 x (now (rest .entry))) ⌝ }
-{
-    if rest.len() < 1 {
-        return Reading::Malformed;
-    }
-    let b = wide(rest[0]);
-    if is_trailing(b) {
-        return accept(2, 0x80, x * 64 + (b - 0x80));
-    }
-    Reading::Malformed
-}
-
-// The character of three octets whose first carries the bits x.
-fn read_three(x: u32, rest: &[u8]) -> Reading
-    requires { ⌜ x < 0x10 ⌝ }
-    ensures { λ r. ⌜ characterRead r ≡ taken 3 0x800 (trailed 2 x (now (rest .entry))) ⌝ }
-{
-    if rest.len() < 2 {
-        return Reading::Malformed;
-    }
-    let b = wide(rest[0]);
-    let c = wide(rest[1]);
-    if is_trailing(b) {
-        if is_trailing(c) {
-            return accept(3, 0x800, x * 4096 + (b - 0x80) * 64 + (c - 0x80));
+    let mut code = bits;
+    let mut i = 0;
+    while i < count {
+        let octet = rest[i] as u32;
+        if !is_trailing(octet) {
+            return Reading::Malformed;
         }
+        code = code * 64 + (octet - 0x80);
+        i += 1;
     }
-    Reading::Malformed
+    accept(width, least, code)
 }
 
-// The character of four octets whose first carries the bits x.
-fn read_four(x: u32, rest: &[u8]) -> Reading
-    requires { ⌜ x < 0x8 ⌝ }
-    ensures { λ r. ⌜ characterRead r ≡ taken 4 0x10000 (trailed 3 x (now (rest .entry))) ⌝ }
+// The number of the bits `bits` and of those of the octets that `rest` begins with, `count` of them, where all trail.
+fn join(count: usize, bits: u32, rest: &[u8]) -> u32
+    requires { ⌜ count ≤ 3 ⌝ }
+    requires { ⌜ bits < 0x20 ⌝ }
+    requires { ⌜ there (trailed count bits (now rest)) ≡ true ⌝ }
+    ensures { λ r. ⌜ some r ≡ trailed count bits (now (rest .entry)) ⌝ }
 {
-    if rest.len() < 3 {
-        return Reading::Malformed;
+    let mut code = bits;
+    let mut i = 0;
+    while i < count {
+        code = code * 64 + (rest[i] as u32 - 0x80);
+        i += 1;
     }
-    let b = wide(rest[0]);
-    let c = wide(rest[1]);
-    let d = wide(rest[2]);
-    if is_trailing(b) {
-        if is_trailing(c) {
-            if is_trailing(d) {
-                let code = x * 262144 + (b - 0x80) * 4096 + (c - 0x80) * 64 + (d - 0x80);
-                return accept(4, 0x10000, code);
-            }
-        }
-    }
-    Reading::Malformed
+    code
 }

@@ -16,6 +16,9 @@ const EDGES: [u8; 26] = [
     0xF3, 0xF4, 0xF5, 0xF8, 0xFF,
 ];
 
+/// The first and the last octet that trail, and the octets beside them.
+const TRAILING: [u8; 4] = [0x7F, 0x80, 0xBF, 0xC0];
+
 /// Over the empty table a key is at most so many times as long as its text: a Hangul syllable becomes three jamo.
 const KEY_GROWTH: usize = 3;
 
@@ -23,6 +26,7 @@ pub fn run(settings: &Settings) -> Result<u64, Stop> {
     let table = Table::new(vec![], vec![])?;
     let mut cases = listed(&table)?;
     cases += edges(&table, if settings.short { 2 } else { 4 })?;
+    cases += first_octets(&table, if settings.short { 3 } else { 5 })?;
     if let Some(path) = &settings.utf8_test {
         for line in lines_of(&read_file(path)?) {
             is_valid(&table, line)?;
@@ -72,14 +76,28 @@ fn read_sequence(line: &str) -> Option<(&str, &str, Vec<u8>)> {
     Some((number, verdict, octets?))
 }
 
+/// Every sequence of so many octets out of a row.
+fn sequences(row: &[u8], length: u32) -> impl Iterator<Item = Vec<u8>> + '_ {
+    let count = row.len();
+    (0..count.pow(length)).map(move |number| (0..length).map(|place| row[number / count.pow(place) % count]).collect())
+}
+
 /// Every sequence of at most so many octets out of `EDGES`.
 fn edges(table: &Table, longest: u32) -> Result<u64, String> {
     let mut cases = 0;
-    for length in 1..=longest {
-        for number in 0..EDGES.len().pow(length) {
-            let digit = |place| EDGES[number / EDGES.len().pow(place) % EDGES.len()];
-            let text: Vec<u8> = (0..length).map(digit).collect();
-            is_valid(table, &text)?;
+    for text in (1..=longest).flat_map(|length| sequences(&EDGES, length)) {
+        is_valid(table, &text)?;
+        cases += 1;
+    }
+    Ok(cases)
+}
+
+/// Every first octet, with at most so many octets out of `TRAILING` after it: more than the length that it announces, too.
+fn first_octets(table: &Table, most: u32) -> Result<u64, String> {
+    let mut cases = 0;
+    for first in 0..=u8::MAX {
+        for rest in (0..=most).flat_map(|length| sequences(&TRAILING, length)) {
+            is_valid(table, &[&[first], &rest[..]].concat())?;
             cases += 1;
         }
     }

@@ -1,71 +1,133 @@
--- `utf8::read_longer` meets its contract: at each return the tests that led there say what `decode` makes of the first octet.
+-- `utf8::read_longer` meets its contract. The loop's invariant: the octets so far have become `code` (`Joining`), and the count
+-- is that of the octets that trail, which are there. The measure is the number of octets left.
 -- Assumes nothing.
-use mathlib.Core.Path.{sym, _∙_}
-use Prim.Native.Nat.{_-_}
+use mathlib.Core.Path.{_≡_, sym, _∙_, ap}
+use mathlib.Core.Bool.{true}
+use Prim.Native.Nat.{ℕ, _-_, _<_}
 use native.Mathlib.Omega.{arith}
 use borrow.Author.Needs.{needs}
-use Rattle.utf8.proofs.Encode.{leadsTwo, leadsThree, leadsFour}
-use Rattle.utf8.proofs.Decode.{decode-trail, decode-longer, decode-high}
+use borrow.Author.Tests.{not-true, not-false}
+use lib.ListN.{length, getD}
+use Rattle.utf8.specs.Utf8.{trails, taken}
+use Rattle.utf8.proofs.Trailed.{Between, trails-bounds, trailed-short}
+use Rattle.utf8.proofs.Joining.{Joining, joining-start, joining-room, joining-more, joining-stops, joining-done}
 use Rattle.utf8.proofs.read_longer.Statement.{statement}
 use Rattle.utf8.proofs.read_longer.Tie as tie
 
--- an octet that trails
-returns : tie.Need-returns
+abbrev Inv-loop : tie.InvT-loop
+Inv-loop width least bits rest count code₀ i₀ code i = Joining (width - 1) bits rest i code
+
+abbrev μ-loop : tie.MeasureT-loop
+μ-loop width least bits rest count code₀ i₀ code i = count - i
+
+-- in the loop: its head, the function's entry, and the next octet
+abbrev head : tie.In-loop Inv-loop μ-loop → tie.At-loop Inv-loop μ-loop
+head c = c .before
+
+abbrev start : tie.In-loop Inv-loop μ-loop → tie.Start Inv-loop μ-loop
+start c = c .before .before .before .before
+
+abbrev next : tie.In-loop Inv-loop μ-loop → ℕ
+next c = getD (start c .args .rest .now) (head c .loop .i) 0
+
+-- it is there
+stands : (c : tie.In-loop Inv-loop μ-loop) → head c .loop .i < length (start c .args .rest .now)
+stands c = omega (arith, c .loop-test .taken, c .before .before .if1 .left)
+
+-- and there is room for its bits
+room : (c : tie.In-loop Inv-loop μ-loop) → head c .loop .code < 0x20000
+room c = joining-room (head c .loop .inv) (omega (arith, start c .pre)) (c .loop-test .taken)
+
+-- where it trails: in the loop
+abbrev inside : tie.Else2 Inv-loop μ-loop → tie.In-loop Inv-loop μ-loop
+inside c = c .before .before .before
+
+trails-here : (c : tie.Else2 Inv-loop μ-loop) → trails (next (inside c)) ≡ true
+trails-here c = sym (c .before .is-trailing .ensures) ∙ not-false _ (c .if2 .left)
+
+between : (c : tie.Else2 Inv-loop μ-loop) → Between (next (inside c))
+between c = trails-bounds (next (inside c)) (trails-here c)
+
+sub-count : tie.Need-sub-count Inv-loop μ-loop
+sub-count c = search needs
+
+-- too few octets
+returns : tie.Need-returns Inv-loop μ-loop
 returns c =
+    let a = c .before .before .args in
+    sym (ap (taken (a .width) (a .least)) (trailed-short (a .width - 1) (a .bits) (a .rest .now) (c .if1 .taken)))
+
+loop-holds : tie.Need-loop-holds Inv-loop μ-loop
+loop-holds c =
     let s = c .before .before in
-    sym (decode-trail (s .args .a) (s .args .rest .now) (s .pre) (c .if1 .taken))
+    joining-start (s .args .width - 1) (s .args .bits) (s .args .rest .now) (s .pre .1 .1)
 
-read-two-requires : tie.Need-read-two-requires
-read-two-requires c κs = search needs
+shared-slice-read-octet : tie.Need-shared-slice-read-octet Inv-loop μ-loop
+shared-slice-read-octet c = stands (c .before)
 
--- two octets
-returns-2 : tie.Need-returns-2
+cast-octet : tie.Need-cast-octet Inv-loop μ-loop
+cast-octet c = omega (arith, c .shared-slice-known2 .given (c .before .before .loop .i))
+
+is-trailing-requires : tie.Need-is-trailing-requires Inv-loop μ-loop
+is-trailing-requires c κs = search needs
+
+-- an octet that doesn't trail
+returns-2 : tie.Need-returns-2 Inv-loop μ-loop
 returns-2 c =
-    let t = c .before in
-    let a = t .before .before .before .args in
-    c .read-two .ensures
-    ∙ sym (decode-longer (a .a) (a .a - 0xC0) 1 0x80 (a .rest .now)
-    (leadsTwo (omega (arith, t .before .if1 .left)) (omega (arith, t .if2 .taken))))
+    let l = c .before .before .before in
+    let a = start l .args in
+    let stays = sym (c .before .is-trailing .ensures) ∙ not-true _ (c .if2 .taken) in
+    sym (ap (taken (a .width) (a .least)) (joining-stops (head l .loop .inv) (l .loop-test .taken) (stands l) stays))
 
-read-three-requires : tie.Need-read-three-requires
-read-three-requires c κs = search needs
+mul-code : tie.Need-mul-code Inv-loop μ-loop
+mul-code c = omega (arith, room (inside c))
 
--- three octets
-returns-3 : tie.Need-returns-3
+sub-code : tie.Need-sub-code Inv-loop μ-loop
+sub-code c = between c .0
+
+add-code : tie.Need-add-code Inv-loop μ-loop
+add-code c = omega (arith, room (inside c), between c)
+
+add-i : tie.Need-add-i Inv-loop μ-loop
+add-i c = omega (arith, inside c .loop-test .taken, start (inside c) .pre)
+
+loop-less : tie.Need-loop-less Inv-loop μ-loop
+loop-less c = omega (arith, inside c .loop-test .taken)
+
+-- one octet more
+loop-again : tie.Need-loop-again Inv-loop μ-loop
+loop-again c =
+    let l = inside c in
+    joining-more (head l .loop .inv) (l .loop-test .taken) (stands l) (trails-here c)
+
+accept-requires : tie.Need-accept-requires Inv-loop μ-loop
+accept-requires c κs = search needs
+
+-- all of them
+returns-3 : tie.Need-returns-3 Inv-loop μ-loop
 returns-3 c =
-    let t = c .before in
-    let a = t .before .before .before .before .args in
-    c .read-three .ensures
-    ∙ sym (decode-longer (a .a) (a .a - 0xE0) 2 0x800 (a .rest .now)
-    (leadsThree (omega (arith, t .before .if2 .left)) (omega (arith, t .if3 .taken))))
-
-read-four-requires : tie.Need-read-four-requires
-read-four-requires c κs = search needs
-
--- four octets
-returns-4 : tie.Need-returns-4
-returns-4 c =
-    let t = c .before in
-    let a = t .before .before .before .before .before .args in
-    c .read-four .ensures
-    ∙ sym (decode-longer (a .a) (a .a - 0xF0) 3 0x10000 (a .rest .now)
-    (leadsFour (omega (arith, t .before .if3 .left)) (omega (arith, t .if4 .taken))))
-
--- an octet that begins nothing
-returns-5 : tie.Need-returns-5
-returns-5 c =
     let a = c .before .before .before .before .before .args in
-    sym (decode-high (a .a) (a .rest .now) (c .if4 .left))
+    c .accept .ensures
+    ∙ sym (ap (taken (a .width) (a .least)) (joining-done (c .before .before .loop .inv) (c .before .loop-test .left)))
 
 pub read-longer-spec : {M : Type 1} → statement M
 read-longer-spec =
     tie.close
     (tie.spec
+    Inv-loop
+    μ-loop
+    sub-count
     returns
-    read-two-requires
+    loop-holds
+    shared-slice-read-octet
+    cast-octet
+    is-trailing-requires
     returns-2
-    read-three-requires
-    returns-3
-    read-four-requires
-    returns-4
-    returns-5)
+    mul-code
+    sub-code
+    add-code
+    add-i
+    loop-less
+    loop-again
+    accept-requires
+    returns-3)

@@ -1,213 +1,165 @@
--- `utf8::read_valid` meets its contract: a character stands at the position, so its first octet says which octets follow it, and
--- that they trail.
+-- `utf8::read_valid` meets its contract: a character stands at the position, so the row of `sequence` that the octet there announces
+-- is one, and all octets that it names are there and trail.
 -- Assumes nothing.
-use Prim.Native.Nat.{ℕ, _+_, _≤_, _<_}
+use mathlib.Core.Path.{_≡_, refl, sym, _∙_, ap}
+use mathlib.Core.Bool.{true, true≢false}
+use mathlib.Core.List.{List}
+use mathlib.Core.Option.{Option}
+use Prim.Native.Nat.{ℕ, zero, suc, _+_, _-_, _≤_, _<_}
 use native.Mathlib.Omega.{arith}
 use borrow.Author.Needs.{needs}
-use lib.ListN.{length, getD}
-use Rattle.utf8.proofs.Trailed.{Between}
-use Rattle.utf8.proofs.Places.{CharacterAt, there-characterAt, characterAt-is}
+use lib.ListN.{length, take, drop, getD}
+use Rattle.terms.specs.Lists.{there}
+use Rattle.utf8.specs.Utf8.{trailed, sequence}
+use Rattle.utf8.specs.Promises.{lengthSaid}
+use Rattle.utf8.proofs.Lengths.{Marked, announced-marked}
+use Rattle.utf8.proofs.Trailed.{taken-there, taken-is}
+use Rattle.utf8.proofs.Decode.{decode-stands, RowAt, decode-at}
 use Rattle.utf8.proofs.read_valid.Statement.{statement}
 use Rattle.utf8.proofs.read_valid.Tie as tie
 
--- where the first octet was read: the function's entry
-abbrev start : tie.After-wide → tie.Start
-start w = w .before .before .before
+-- an octet stands at the position
+stands : (s : tie.Start) → s .args .at .0 < length (s .args .text .now)
+stands s = decode-stands (s .args .text .now) (s .args .at .0) (s .pre)
 
--- where the next octet was read: where this one was
-abbrev first : tie.After-wide2 → tie.After-wide
-first w = w .before .before .before
+-- where the length is known: the function's entry, the octet at the position, and what follows it
+abbrev start : tie.After-sequence-length → tie.Start
+start w = w .before .before .before .before
 
-abbrev second : tie.After-wide3 → tie.After-wide2
-second w = w .before .before .before
+abbrev octet : tie.After-sequence-length → ℕ
+octet w = getD (start w .args .text .now) (start w .args .at .0) 0
 
-abbrev third : tie.After-wide4 → tie.After-wide3
-third w = w .before .before .before
+abbrev part : tie.After-sequence-length → List ℕ
+part w =
+    let t = start w .args .text .now in
+    let i = start w .args .at .0 in
+    take (length t - (i + 1)) (drop (i + 1) t)
 
--- the character at the position
-character-of : (s : tie.Start) → CharacterAt (s .args .text .now) (s .args .at .0)
-character-of s = there-characterAt (s .args .text .now) (s .args .at .0) (s .pre)
+-- the character there, by the length
+row : (w : tie.After-sequence-length) (n : ℕ) → w .sequence-length .result ≡ n
+    → RowAt (start w .args .text .now) (start w .args .at .0) n
+row w n is =
+    let a = start w .args in
+    decode-at (a .text .now) (a .at .0) n (stands (start w)) (ap lengthSaid (sym is) ∙ w .sequence-length .ensures)
 
--- the octet k places on is there, and trails
-abbrev Follows : tie.Start → ℕ → Type 0
-Follows s k =
-    let i = s .args .at .0 in
-    (i + k < length (s .args .text .now)) × Between (getD (s .args .text .now) (i + k) 0)
+-- which is one
+valid : (w : tie.After-sequence-length) (n : ℕ) → w .sequence-length .result ≡ n
+    → there (sequence (lengthSaid n) (octet w) (part w)) ≡ true
+valid w n is = sym (ap there (row w n is)) ∙ start w .pre
 
--- what the tests of the first octet say of the next one
-two-there : (c : tie.Else1) → (0xC0 ≤ c .before .wide .result) × Follows (start (c .before)) 1
-two-there c = omega (arith, character-of (start (c .before)) .octets .second (omega arith))
+-- the ones in front of the octet's bits
+marked : (w : tie.After-sequence-length) (n : ℕ) → w .sequence-length .result ≡ suc n → 1 ≤ n → Marked (suc n) (octet w)
+marked w n is l =
+    announced-marked (octet w) (suc n) (sym (w .sequence-length .ensures) ∙ ap lengthSaid is) (omega arith)
 
-three-there : (c : tie.Else2) → Follows (start (first (c .before))) 2
-three-there c = omega (arith, character-of (start (first (c .before))) .octets .third (omega arith))
+-- what n octets come to after the bits x
+abbrev joined : tie.After-sequence-length → ℕ → ℕ → Option ℕ
+joined w n x = trailed n x (part w)
 
-four-there : (c : tie.Else3)
-    → let w = first (second (c .before)) in
-    (w .wide .result < 0xF8) × Follows (start w) 3
-four-there c = omega (arith, character-of (start (first (second (c .before)))) .octets .fourth (omega arith))
+-- where the length is none of one, three and four, it is two
+two : (c : tie.At-match-rest) → c .before .sequence-length .result ≡ 2
+two c = by (c .before .sequence-length .result) refl
+  where
+    by : (n : ℕ) → c .before .sequence-length .result ≡ n → c .before .sequence-length .result ≡ 2
+    by zero is = absurd (true≢false (sym (valid (c .before) 0 is)))
+    by (suc zero) is = absurd (c .match .rest .0 .0 .1 is)
+    by (suc (suc n)) is =
+        omega (arith, marked (c .before) (suc n) is (omega arith), c .match .rest .0 .1, c .match .rest .1)
 
--- so each that was read trails
-b-trails : (w : tie.After-wide2) → Between (w .wide2 .result)
-b-trails w = rw (w .wide2 .ensures) (two-there (w .before .before) .1 .1)
+shared-slice-read-first : tie.Need-shared-slice-read-first
+shared-slice-read-first c = stands (c .before .before)
 
-c-trails : (w : tie.After-wide3) → Between (w .wide3 .result)
-c-trails w = rw (w .wide3 .ensures) (three-there (w .before .before) .1)
+cast-a : tie.Need-cast-a
+cast-a c = omega (arith, c .shared-slice-known2 .given (c .before .before .args .at .0))
 
-d-trails : (w : tie.After-wide4) → Between (w .wide4 .result)
-d-trails w = rw (w .wide4 .ensures) (four-there (w .before .before) .1 .1)
+add-rest : tie.Need-add-rest
+add-rest c = let s = c .before .before in omega (arith, stands s, s .good .0)
 
--- the bounds of four octets
-bounds : (w : tie.After-wide4)
-    → let w₃ = third w in
-    let w₂ = second w₃ in
-    (first w₂ .wide .result < 0xF8) × Between (w₂ .wide2 .result) × Between (w₃ .wide3 .result) × Between (w .wide4 .result)
-bounds w = (four-there (w .before .before) .0, b-trails (second (third w)), c-trails (third w), d-trails w)
+sub-rest : tie.Need-sub-rest
+sub-rest c = omega (arith, stands (c .before .before))
 
--- an octet is there
-shared-slice-read-wide : tie.Need-shared-slice-read-wide
-shared-slice-read-wide c = omega (arith, character-of (c .before .before) .octets .first)
+part-rest-start : tie.Need-part-rest-start
+part-rest-start c = omega (arith, stands (c .before .before))
 
-wide-requires : tie.Need-wide-requires
-wide-requires c κs = search needs
+part-rest-end : tie.Need-part-rest-end
+part-rest-end c = search needs
 
--- one octet
-returns : tie.Need-returns
-returns c =
-    let s = character-of (start (c .before)) in
-    characterAt-is _ _ s _ _ (omega (arith, s .octets .one (omega arith)))
-
--- a second one
-add-wide : tie.Need-add-wide
-add-wide c = omega (arith, two-there c)
-
-shared-slice-read-wide-2 : tie.Need-shared-slice-read-wide-2
-shared-slice-read-wide-2 c = omega (arith, two-there (c .before))
-
-wide-requires-2 : tie.Need-wide-requires-2
-wide-requires-2 c κs = search needs
-
-sub-b : tie.Need-sub-b
-sub-b c = b-trails c .0
-
--- two octets
-sub-code : tie.Need-sub-code
-sub-code c = omega (arith, two-there (c .before .before .before))
-
-mul-code : tie.Need-mul-code
-mul-code c = search needs
-
-add-code : tie.Need-add-code
-add-code c = omega (arith, b-trails (c .before))
-
-returns-2 : tie.Need-returns-2
-returns-2 c =
-    let s = character-of (start (first (c .before))) in
-    let q = s .octets .two (omega arith) (omega arith) in
-    characterAt-is _ _ s _ _ (omega (arith, q, two-there (c .before .before .before), b-trails (c .before)))
-
--- a third one
-add-wide-2 : tie.Need-add-wide-2
-add-wide-2 c = omega (arith, three-there c)
-
-shared-slice-read-wide-3 : tie.Need-shared-slice-read-wide-3
-shared-slice-read-wide-3 c = omega (arith, three-there (c .before))
-
-wide-requires-3 : tie.Need-wide-requires-3
-wide-requires-3 c κs = search needs
-
-sub-c : tie.Need-sub-c
-sub-c c = c-trails c .0
+sequence-length-requires : tie.Need-sequence-length-requires
+sequence-length-requires c κs = search needs
 
 -- three octets
-mul-code-2 : tie.Need-mul-code-2
-mul-code-2 c = search needs
+sub-join : tie.Need-sub-join
+sub-join c = omega (arith, marked (c .before) 2 (c .match .keys2) (omega arith))
 
-mul-code-3 : tie.Need-mul-code-3
-mul-code-3 c = omega (arith, b-trails (second (c .before)))
-
-add-code-2 : tie.Need-add-code-2
-add-code-2 c = omega (arith, b-trails (second (c .before)))
-
-add-code-3 : tie.Need-add-code-3
-add-code-3 c = omega (arith, b-trails (second (c .before)), c-trails (c .before))
-
-returns-3 : tie.Need-returns-3
-returns-3 c =
+join-requires : tie.Need-join-requires
+join-requires c κs =
     let w = c .before in
-    let s = character-of (start (first (second w))) in
-    let q = s .octets .three (omega arith) (omega arith) in
-    characterAt-is _ _ s _ _ (omega (arith, q, b-trails (second w), c-trails w))
-
--- a fourth one
-add-wide-3 : tie.Need-add-wide-3
-add-wide-3 c = omega (arith, four-there c)
-
-shared-slice-read-wide-4 : tie.Need-shared-slice-read-wide-4
-shared-slice-read-wide-4 c = omega (arith, four-there (c .before))
-
-wide-requires-4 : tie.Need-wide-requires-4
-wide-requires-4 c κs = search needs
-
-sub-d : tie.Need-sub-d
-sub-d c = d-trails c .0
+    let m = marked w 2 (c .match .keys2) (omega arith) in
+    (omega arith, (omega (arith, m), taken-there 3 0x800 (joined w 2 (octet w - 0xE0)) (valid w 3 (c .match .keys2))))
 
 -- four octets
-mul-code-4 : tie.Need-mul-code-4
-mul-code-4 c = omega (arith, bounds c)
+sub-join-2 : tie.Need-sub-join-2
+sub-join-2 c = omega (arith, marked (c .before) 3 (c .match .keys3) (omega arith))
 
-mul-code-5 : tie.Need-mul-code-5
-mul-code-5 c = omega (arith, bounds c)
+join-requires-2 : tie.Need-join-requires-2
+join-requires-2 c κs =
+    let w = c .before in
+    let m = marked w 3 (c .match .keys3) (omega arith) in
+    (omega arith, (omega (arith, m), taken-there 4 0x10000 (joined w 3 (octet w - 0xF0)) (valid w 4 (c .match .keys3))))
 
-add-code-4 : tie.Need-add-code-4
-add-code-4 c = omega (arith, bounds c)
+-- two octets
+sub-join-3 : tie.Need-sub-join-3
+sub-join-3 c = omega (arith, marked (c .before) 1 (two c) (omega arith))
 
-mul-code-6 : tie.Need-mul-code-6
-mul-code-6 c = omega (arith, bounds c)
+join-requires-3 : tie.Need-join-requires-3
+join-requires-3 c κs =
+    let w = c .before in
+    let m = marked w 1 (two c) (omega arith) in
+    (omega arith, (omega (arith, m), taken-there 2 0x80 (joined w 1 (octet w - 0xC0)) (valid w 2 (two c))))
 
-add-code-5 : tie.Need-add-code-5
-add-code-5 c = omega (arith, bounds c)
+-- one
+returns : tie.Need-returns
+returns c = sym (row (c .before) 1 (c .match .keys1))
 
-add-code-6 : tie.Need-add-code-6
-add-code-6 c = omega (arith, bounds c)
+-- three
+returns-2 : tie.Need-returns-2
+returns-2 c =
+    let w = c .before .before in
+    let is = c .before .match .keys2 in
+    taken-is 3 0x800 (c .join .result) (joined w 2 (octet w - 0xE0)) (valid w 3 is) (c .join .ensures) ∙ sym (row w 3 is)
 
+-- four
+returns-3 : tie.Need-returns-3
+returns-3 c =
+    let w = c .before .before in
+    let is = c .before .match .keys3 in
+    taken-is 4 0x10000 (c .join2 .result) (joined w 3 (octet w - 0xF0)) (valid w 4 is) (c .join2 .ensures) ∙ sym (row w 4 is)
+
+-- two
 returns-4 : tie.Need-returns-4
 returns-4 c =
-    let s = character-of (start (first (second (third c)))) in
-    let q = s .octets .four (omega arith) in
-    characterAt-is _ _ s _ _ (omega (arith, q, bounds c))
+    let w = c .before .before in
+    let is = two (c .before) in
+    taken-is 2 0x80 (c .join3 .result) (joined w 1 (octet w - 0xC0)) (valid w 2 is) (c .join3 .ensures) ∙ sym (row w 2 is)
 
 pub read-valid-spec : {M : Type 1} → statement M
 read-valid-spec =
     tie.close
     (tie.spec
-    shared-slice-read-wide
-    wide-requires
+    shared-slice-read-first
+    cast-a
+    add-rest
+    sub-rest
+    part-rest-start
+    part-rest-end
+    sequence-length-requires
+    sub-join
+    join-requires
+    sub-join-2
+    join-requires-2
+    sub-join-3
+    join-requires-3
     returns
-    add-wide
-    shared-slice-read-wide-2
-    wide-requires-2
-    sub-b
-    sub-code
-    mul-code
-    add-code
     returns-2
-    add-wide-2
-    shared-slice-read-wide-3
-    wide-requires-3
-    sub-c
-    mul-code-2
-    mul-code-3
-    add-code-2
-    add-code-3
     returns-3
-    add-wide-3
-    shared-slice-read-wide-4
-    wide-requires-4
-    sub-d
-    mul-code-4
-    mul-code-5
-    add-code-4
-    mul-code-6
-    add-code-5
-    add-code-6
     returns-4)

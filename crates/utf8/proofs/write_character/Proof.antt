@@ -2,47 +2,39 @@
 -- these are what was stored.
 -- Assumes nothing.
 use mathlib.Core.Path.{_≡_, sym, ap}
-use Prim.Native.Nat.{_≤_, _+_, _/_, _%_}
-use mathlib.Core.List.{[], _∷_}
+use Prim.Native.Nat.{ℕ, _≤_}
+use mathlib.Core.List.{List}
+use native.Mathlib.Nat.{zero-add}
 use native.Mathlib.Omega.{arith}
 use borrow.Author.Needs.{needs}
 use lib.ListN.{length, length-set}
-use lib.Seq.{sets-eq}
+use lib.Seq.{sets, sets-eq}
 use Rattle.utf8.specs.Utf8.{encode}
+use Rattle.utf8.specs.Promises.{Written}
 use Rattle.utf8.proofs.Encode.{encode-one, encode-two, encode-three, encode-four}
 use Rattle.utf8.proofs.write_character.Statement.{statement}
 use Rattle.utf8.proofs.write_character.Tie as tie
 
--- the octets of the code point in each case, and that there is room for them
-one : (c : tie.Then1) → encode (c .before .args .c .0) ≡ c .before .args .c .0 ∷ []
-one c = encode-one (c .before .args .c .0) (c .if1 .taken)
+-- octets that are a code point's, stored one after another, are written
+written : (c : ℕ) (octets out : List ℕ) → encode c ≡ octets → length octets ≤ length out
+    → Written c out (length octets) (sets out 0 octets)
+written c octets out e room =
+    let stored = rw (zero-add (length octets)) at (sets-eq octets out 0 (omega arith)) in
+    record { count = sym (ap length e); octets = rw e stored }
 
+-- there is room for one octet, for two, for three, for four
 one-room : (c : tie.Then1) → 1 ≤ length (c .before .args .out .now)
-one-room c = omega (arith, ap length (one c))
-
-two : (c : tie.Then2)
-    → let n = c .before .before .args .c .0 in
-    encode n ≡ (0xC0 + n / 64) ∷ (0x80 + n % 64) ∷ []
-two c = encode-two (c .before .before .args .c .0) (c .before .if1 .left) (c .if2 .taken)
+one-room c = omega (arith, ap length (encode-one (c .before .args .c .0) (c .if1 .taken)))
 
 two-room : (c : tie.Then2) → 2 ≤ length (c .before .before .args .out .now)
-two-room c = omega (arith, ap length (two c))
-
-three : (c : tie.Then3)
-    → let n = c .before .before .before .args .c .0 in
-    encode n ≡ (0xE0 + n / 4096) ∷ (0x80 + n / 64 % 64) ∷ (0x80 + n % 64) ∷ []
-three c = encode-three (c .before .before .before .args .c .0) (c .before .if2 .left) (c .if3 .taken)
+two-room c = omega (arith, ap length (encode-two (c .before .before .args .c .0) (c .before .if1 .left) (c .if2 .taken)))
 
 three-room : (c : tie.Then3) → 3 ≤ length (c .before .before .before .args .out .now)
-three-room c = omega (arith, ap length (three c))
-
-four : (c : tie.Else3)
-    → let n = c .before .before .before .args .c .0 in
-    encode n ≡ (0xF0 + n / 262144) ∷ (0x80 + n / 4096 % 64) ∷ (0x80 + n / 64 % 64) ∷ (0x80 + n % 64) ∷ []
-four c = encode-four (c .before .before .before .args .c .0) (c .if3 .left)
+three-room c =
+    omega (arith, ap length (encode-three (c .before .before .before .args .c .0) (c .before .if2 .left) (c .if3 .taken)))
 
 four-room : (c : tie.Else3) → 4 ≤ length (c .before .before .before .args .out .now)
-four-room c = omega (arith, ap length (four c))
+four-room c = omega (arith, ap length (encode-four (c .before .before .before .args .c .0) (c .if3 .left)))
 
 cast-out : tie.Need-cast-out
 cast-out c = search needs
@@ -57,8 +49,8 @@ same-length c = search needs
 -- below 80
 returns : tie.Need-returns
 returns c =
-    let n = c .before .args .c .0 in
-    record { count = sym (ap length (one c)); octets = rw (one c) (sets-eq (n ∷ []) (c .before .args .out .now) 0 (one-room c)) }
+    let a = c .before .args in
+    written (a .c .0) _ (a .out .now) (encode-one (a .c .0) (c .if1 .taken)) (one-room c)
 
 add-out : tie.Need-add-out
 add-out c = search needs
@@ -87,11 +79,7 @@ same-length-2 c = search needs
 returns-2 : tie.Need-returns-2
 returns-2 c =
     let a = c .before .before .args in
-    let n = a .c .0 in
-    record {
-      count = sym (ap length (two c));
-      octets = rw (two c) (sets-eq ((0xC0 + n / 64) ∷ (0x80 + n % 64) ∷ []) (a .out .now) 0 (two-room c));
-    }
+    written (a .c .0) _ (a .out .now) (encode-two (a .c .0) (c .before .if1 .left) (c .if2 .taken)) (two-room c)
 
 add-out-3 : tie.Need-add-out-3
 add-out-3 c = search needs
@@ -130,14 +118,7 @@ same-length-3 c = search needs
 returns-3 : tie.Need-returns-3
 returns-3 c =
     let a = c .before .before .before .args in
-    let n = a .c .0 in
-    record {
-      count = sym (ap length (three c));
-      octets =
-          rw
-          (three c)
-          (sets-eq ((0xE0 + n / 4096) ∷ (0x80 + n / 64 % 64) ∷ (0x80 + n % 64) ∷ []) (a .out .now) 0 (three-room c));
-    }
+    written (a .c .0) _ (a .out .now) (encode-three (a .c .0) (c .before .if2 .left) (c .if3 .taken)) (three-room c)
 
 add-out-6 : tie.Need-add-out-6
 add-out-6 c = search needs
@@ -186,15 +167,7 @@ same-length-4 c = search needs
 returns-4 : tie.Need-returns-4
 returns-4 c =
     let a = c .before .before .before .args in
-    let n = a .c .0 in
-    record {
-      count = sym (ap length (four c));
-      octets =
-          rw
-          (four c)
-          (sets-eq ((0xF0 + n / 262144) ∷ (0x80 + n / 4096 % 64) ∷ (0x80 + n / 64 % 64) ∷ (0x80 + n % 64) ∷ [])
-          (a .out .now) 0 (four-room c));
-    }
+    written (a .c .0) _ (a .out .now) (encode-four (a .c .0) (c .if3 .left)) (four-room c)
 
 pub write-character-spec : {M : Type 1} → statement M
 write-character-spec =
