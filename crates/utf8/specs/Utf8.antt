@@ -1,4 +1,5 @@
--- UTF-8 (RFC 3629): the octets of a code point, the character at the front of a text, the characters of a text.
+-- UTF-8 (RFC 3629): the length that a first octet announces, the octets of a code point, the character at the front of a text, the
+-- characters of a text.
 -- `proofs/Characters.antt` shows that a text has characters exactly when it is the encoding of scalar code points, one after
 -- another; so no overlong form, no surrogate, nothing above U+10FFFF and nothing cut off is a character.
 -- Assumes nothing.
@@ -14,7 +15,7 @@ use Rattle.utf8.specs.Characters.{codesOf, charactersBy}
 pub use Rattle.terms.specs.CodePoints.{scalar}
 pub use Rattle.utf8.specs.Characters.{Character, character}
 
--- how many of a number's highest k bits are ones, before the first that is none
+-- how many of a number's k bits are ones, from the highest on, before the first that is 0; all k of a number that needs more bits
 unfoldable pub leadingOnes : ℕ → ℕ → ℕ
 leadingOnes zero o = 0
 leadingOnes (suc k) o = cond (leb (2 ^ k) o) (suc (leadingOnes k (o - 2 ^ k))) 0
