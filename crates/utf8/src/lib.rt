@@ -4,7 +4,7 @@ use terms::CodePoint;
 use terms::TextPosition;
 ghost use mathlib.Core.Path.{_≡_};
 ghost use mathlib.Core.Bool.{true};
-ghost use Prim.Native.Nat.{_-_, _≤_, _<_};
+ghost use Prim.Native.Nat.{_+_, _-_, _*_, _%_, _≤_, _<_};
 ghost use mathlib.Core.Option.{some};
 ghost use lib.Dec.{eqb};
 ghost use lib.ListN.{length, drop};
@@ -98,19 +98,19 @@ pub fn write_character(c: CodePoint, out: &mut [u8]) -> usize
     }
     if n < 0x800 {
         out[0] = (0xC0 + n / 64) as u8;
-        out[1] = (0x80 + n % 64) as u8;
+        out[1] = trailing_octet(n);
         return 2;
     }
     if n < 0x10000 {
         out[0] = (0xE0 + n / 4096) as u8;
-        out[1] = (0x80 + n / 64 % 64) as u8;
-        out[2] = (0x80 + n % 64) as u8;
+        out[1] = trailing_octet(n / 64);
+        out[2] = trailing_octet(n);
         return 3;
     }
     out[0] = (0xF0 + n / 262144) as u8;
-    out[1] = (0x80 + n / 4096 % 64) as u8;
-    out[2] = (0x80 + n / 64 % 64) as u8;
-    out[3] = (0x80 + n % 64) as u8;
+    out[1] = trailing_octet(n / 4096);
+    out[2] = trailing_octet(n / 64);
+    out[3] = trailing_octet(n);
     4
 }
 
@@ -174,6 +174,13 @@ fn is_ascii(octet: u8) -> bool
     u8::leading_zeros(!octet) == 0
 }
 
+// The octet that continues a character with the low six bits of a number.
+fn trailing_octet(bits: u32) -> u8
+    ensures { λ r. ⌜ r ≡ 0x80 + bits % 64 ⌝ }
+{
+    (0x80 + bits % 64) as u8
+}
+
 // Whether an octet continues a character.
 fn is_trailing(octet: u32) -> bool
     ensures { λ r. ⌜ r ≡ trails octet ⌝ }
@@ -215,7 +222,7 @@ fn read_longer(width: usize, least: u32, bits: u32, rest: &[u8]) -> Reading
         if !is_trailing(octet) {
             return Reading::Malformed;
         }
-        code = code * 64 + (octet - 0x80);
+        code = append_bits(code, octet);
         i += 1;
     }
     accept(width, least, code)
@@ -231,8 +238,18 @@ fn join(count: usize, bits: u32, rest: &[u8]) -> u32
     let mut code = bits;
     let mut i = 0;
     while i < count {
-        code = code * 64 + (rest[i] as u32 - 0x80);
+        code = append_bits(code, rest[i] as u32);
         i += 1;
     }
     code
+}
+
+// A number with the six bits of an octet that continues a character put after its own.
+fn append_bits(code: u32, octet: u32) -> u32
+    requires { ⌜ code < 0x20000 ⌝ }
+    requires { ⌜ 0x80 ≤ octet ⌝ }
+    requires { ⌜ octet < 0xC0 ⌝ }
+    ensures { λ r. ⌜ r ≡ code * 64 + (octet - 0x80) ⌝ }
+{
+    code * 64 + (octet - 0x80)
 }

@@ -21,7 +21,7 @@ abbrev head : tie.In-loop Inv-loop μ-loop → tie.At-loop Inv-loop μ-loop
 head c = c .before
 
 abbrev start : tie.In-loop Inv-loop μ-loop → tie.Start Inv-loop μ-loop
-start c = c .before .before
+start c = c .before .before .before
 
 abbrev next : tie.In-loop Inv-loop μ-loop → ℕ
 next c = getD (start c .args .rest .now) (head c .loop .i) 0
@@ -35,35 +35,31 @@ room : (c : tie.In-loop Inv-loop μ-loop) → head c .loop .code < 0x20000
 room c = joining-room (head c .loop .inv) (start c .pre .0) (c .loop-test .taken)
 
 loop-holds : tie.Need-loop-holds Inv-loop μ-loop
-loop-holds c = joining-start (c .args .count) (c .args .bits) (c .args .rest .now) (c .pre .1 .0)
+loop-holds c = let s = c .before in joining-start (s .args .count) (s .args .bits) (s .args .rest .now) (s .pre .1 .0)
 
-mul-code : tie.Need-mul-code Inv-loop μ-loop
-mul-code c = omega (arith, room c)
+shared-slice-read-append-bits : tie.Need-shared-slice-read-append-bits Inv-loop μ-loop
+shared-slice-read-append-bits c = stands (c .before) .0
 
-shared-slice-read-code : tie.Need-shared-slice-read-code Inv-loop μ-loop
-shared-slice-read-code c = stands (c .before) .0
+cast-append-bits : tie.Need-cast-append-bits Inv-loop μ-loop
+cast-append-bits c = omega (arith, stands (c .before))
 
-cast-code : tie.Need-cast-code Inv-loop μ-loop
-cast-code c = omega (arith, stands (c .before))
-
-sub-code : tie.Need-sub-code Inv-loop μ-loop
-sub-code c = stands (c .before) .1 .0
-
-add-code : tie.Need-add-code Inv-loop μ-loop
-add-code c = omega (arith, room (c .before), stands (c .before))
+append-bits-requires : tie.Need-append-bits-requires Inv-loop μ-loop
+append-bits-requires c κs = (room (c .before), stands (c .before) .1)
 
 add-i : tie.Need-add-i Inv-loop μ-loop
-add-i c = omega (arith, c .before .loop-test .taken, start (c .before) .pre .0)
+add-i c = let l = c .before .before in omega (arith, l .loop-test .taken, start l .pre .0)
 
 loop-less : tie.Need-loop-less Inv-loop μ-loop
-loop-less c = omega (arith, c .before .loop-test .taken)
+loop-less c = omega (arith, c .before .before .loop-test .taken)
 
 -- one octet more
 loop-again : tie.Need-loop-again Inv-loop μ-loop
 loop-again c =
-    let l = c .before in
+    let l = c .before .before in
     let here = stands l in
-    joining-more (head l .loop .inv) (l .loop-test .taken) (here .0) (trails-yes (next l) (here .1))
+    rw
+    (c .append-bits .ensures)
+    (joining-more (head l .loop .inv) (l .loop-test .taken) (here .0) (trails-yes (next l) (here .1)))
 
 -- all of them
 returns : tie.Need-returns Inv-loop μ-loop
@@ -76,11 +72,9 @@ join-spec =
     Inv-loop
     μ-loop
     loop-holds
-    mul-code
-    shared-slice-read-code
-    cast-code
-    sub-code
-    add-code
+    shared-slice-read-append-bits
+    cast-append-bits
+    append-bits-requires
     add-i
     loop-less
     loop-again

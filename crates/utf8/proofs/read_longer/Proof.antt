@@ -79,26 +79,22 @@ returns-2 c =
     let stays = sym (c .before .is-trailing .ensures) ∙ not-true _ (c .if2 .taken) in
     sym (ap (taken (a .width) (a .least)) (joining-stops (head l .loop .inv) (l .loop-test .taken) (stands l) stays))
 
-mul-code : tie.Need-mul-code Inv-loop μ-loop
-mul-code c = omega (arith, room (inside c))
-
-sub-code : tie.Need-sub-code Inv-loop μ-loop
-sub-code c = between c .0
-
-add-code : tie.Need-add-code Inv-loop μ-loop
-add-code c = omega (arith, room (inside c), between c)
+append-bits-requires : tie.Need-append-bits-requires Inv-loop μ-loop
+append-bits-requires c κs = (room (inside c), between c)
 
 add-i : tie.Need-add-i Inv-loop μ-loop
-add-i c = omega (arith, inside c .loop-test .taken, start (inside c) .pre)
+add-i c = let l = inside (c .before) in omega (arith, l .loop-test .taken, start l .pre)
 
 loop-less : tie.Need-loop-less Inv-loop μ-loop
-loop-less c = omega (arith, inside c .loop-test .taken)
+loop-less c = omega (arith, inside (c .before) .loop-test .taken)
 
 -- one octet more
 loop-again : tie.Need-loop-again Inv-loop μ-loop
 loop-again c =
-    let l = inside c in
-    joining-more (head l .loop .inv) (l .loop-test .taken) (stands l) (trails-here c)
+    let l = inside (c .before) in
+    rw
+    (c .append-bits .ensures)
+    (joining-more (head l .loop .inv) (l .loop-test .taken) (stands l) (trails-here (c .before)))
 
 accept-requires : tie.Need-accept-requires Inv-loop μ-loop
 accept-requires c κs = search needs
@@ -123,9 +119,7 @@ read-longer-spec =
     cast-octet
     is-trailing-requires
     returns-2
-    mul-code
-    sub-code
-    add-code
+    append-bits-requires
     add-i
     loop-less
     loop-again
