@@ -7,8 +7,8 @@ use mathlib.Core.List.{List}
 use lib.ListN.{length}
 use Rattle.terms.specs.Lists.{over}
 use Rattle.utf8.specs.Utf8.{Character, character, encode}
-use Rattle.utf8.specs.declared.Reading.{Reading}
-use Rattle.utf8.specs.declared.Reading.the-variants.{Character as Read, Malformed}
+use Rattle.utf8.specs.declared.sequences.Reading.{Reading}
+use Rattle.utf8.specs.declared.sequences.Reading.the-variants.{Character as Read, Malformed}
 use Rattle.utf8.specs.declared.DecodedCharacter.{DecodedCharacter}
 
 -- the length that a number says, where 0 says that there is none

@@ -1,12 +1,12 @@
--- `utf8::accept` meets its contract: the test and `is_scalar` decide the two tests of `taken`.
+-- `utf8::sequences::accept` meets its contract: the test and `is_scalar` decide the two tests of `taken`.
 -- Assumes nothing.
 use mathlib.Core.Path.{_≡_, sym, _∙_}
 use mathlib.Core.Bool.{true, false}
 use borrow.Author.Needs.{needs}
 use borrow.Author.Tests.{le-leb, lt-leb}
 use Rattle.terms.specs.CodePoints.{scalar}
-use Rattle.utf8.proofs.accept.Statement.{statement}
-use Rattle.utf8.proofs.accept.Tie as tie
+use Rattle.utf8.proofs.sequences.accept.Statement.{statement}
+use Rattle.utf8.proofs.sequences.accept.Tie as tie
 
 -- too low
 returns : tie.Need-returns

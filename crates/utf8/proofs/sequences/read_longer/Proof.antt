@@ -1,4 +1,4 @@
--- `utf8::read_longer` meets its contract. The loop's invariant: the octets so far have become `code` (`Joining`), and the count
+-- `utf8::sequences::read_longer` meets its contract. The loop's invariant: the octets so far have become `code` (`Joining`), and the count
 -- is that of the octets that trail, which are there. The measure is the number of octets left.
 -- Assumes nothing.
 use mathlib.Core.Path.{_≡_, sym, _∙_, ap}
@@ -11,8 +11,8 @@ use lib.ListN.{length, getD}
 use Rattle.utf8.specs.Utf8.{trails, taken}
 use Rattle.utf8.proofs.Trailed.{Between, trails-bounds, trailed-short}
 use Rattle.utf8.proofs.Joining.{Joining, joining-start, joining-room, joining-more, joining-stops, joining-done}
-use Rattle.utf8.proofs.read_longer.Statement.{statement}
-use Rattle.utf8.proofs.read_longer.Tie as tie
+use Rattle.utf8.proofs.sequences.read_longer.Statement.{statement}
+use Rattle.utf8.proofs.sequences.read_longer.Tie as tie
 
 abbrev Inv-loop : tie.InvT-loop
 Inv-loop width least bits rest count code₀ i₀ code i = Joining (width - 1) bits rest i code

@@ -1,4 +1,4 @@
--- `utf8::read_character` meets its contract: the length that the octet at the position announces says which row of `sequence` it
+-- `utf8::sequences::read_character` meets its contract: the length that the octet at the position announces says which row of `sequence` it
 -- and the part after it are.
 -- Assumes nothing.
 use mathlib.Core.Path.{_≡_, refl, sym, _∙_, ap}
@@ -11,8 +11,8 @@ use Rattle.utf8.specs.Utf8.{decode}
 use Rattle.utf8.specs.Promises.{lengthSaid}
 use Rattle.utf8.proofs.Lengths.{Marked, announced-marked}
 use Rattle.utf8.proofs.Decode.{decode-nil, RowAt, decode-at, sequence-other}
-use Rattle.utf8.proofs.read_character.Statement.{statement}
-use Rattle.utf8.proofs.read_character.Tie as tie
+use Rattle.utf8.proofs.sequences.read_character.Statement.{statement}
+use Rattle.utf8.proofs.sequences.read_character.Tie as tie
 
 -- where the length is known: the text, and the position
 abbrev text-of : tie.After-sequence-length → List ℕ

@@ -1,4 +1,4 @@
--- `utf8::join` meets its contract. The loop's invariant: the octets so far have become `code` (`Joining`). The measure is the
+-- `utf8::sequences::join` meets its contract. The loop's invariant: the octets so far have become `code` (`Joining`). The measure is the
 -- number of octets left. All trail, since the number that they come to is there.
 -- Assumes nothing.
 use mathlib.Core.Path.{sym}
@@ -7,8 +7,8 @@ use native.Mathlib.Omega.{arith}
 use lib.ListN.{length, getD}
 use Rattle.utf8.proofs.Trailed.{Between, trails-yes}
 use Rattle.utf8.proofs.Joining.{Joining, joining-start, joining-room, joining-next, joining-more, joining-done}
-use Rattle.utf8.proofs.join.Statement.{statement}
-use Rattle.utf8.proofs.join.Tie as tie
+use Rattle.utf8.proofs.sequences.join.Statement.{statement}
+use Rattle.utf8.proofs.sequences.join.Tie as tie
 
 abbrev Inv-loop : tie.InvT-loop
 Inv-loop count bits rest code₀ i₀ code i = Joining count bits rest i code

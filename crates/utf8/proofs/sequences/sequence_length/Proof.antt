@@ -1,4 +1,4 @@
--- `utf8::sequence_length` meets its contract: the leading zeros of the inverted octet are the octet's leading ones, and the tests
+-- `utf8::sequences::sequence_length` meets its contract: the leading zeros of the inverted octet are the octet's leading ones, and the tests
 -- that led to a return say how many there are.
 -- Assumes nothing.
 use mathlib.Core.Path.{_≡_, sym, _∙_, ap}
@@ -11,8 +11,8 @@ use borrow.Author.Tests.{eqb-true, eqb-false}
 use lib.Count.{leadingZeros}
 use Rattle.utf8.specs.Utf8.{leadingOnes, announced}
 use Rattle.utf8.proofs.Lengths.{leadingZeros-inverted, announced-no-ones, announced-ones, announced-one-or-many}
-use Rattle.utf8.proofs.sequence_length.Statement.{statement}
-use Rattle.utf8.proofs.sequence_length.Tie as tie
+use Rattle.utf8.proofs.sequences.sequence_length.Statement.{statement}
+use Rattle.utf8.proofs.sequences.sequence_length.Tie as tie
 
 -- the count that is compared is that of the leading ones
 counted : (s : tie.Start) → leadingZeros 8 (255 - s .args .first) ≡ leadingOnes 8 (s .args .first)

@@ -1,8 +1,8 @@
--- `utf8::is_trailing` meets its contract: the test that led to a return decides the first of `trails`.
+-- `utf8::sequences::is_trailing` meets its contract: the test that led to a return decides the first of `trails`.
 -- Assumes nothing.
 use borrow.Author.Tests.{le-leb, lt-leb}
-use Rattle.utf8.proofs.is_trailing.Statement.{statement}
-use Rattle.utf8.proofs.is_trailing.Tie as tie
+use Rattle.utf8.proofs.sequences.is_trailing.Statement.{statement}
+use Rattle.utf8.proofs.sequences.is_trailing.Tie as tie
 
 -- below 80
 returns : tie.Need-returns
