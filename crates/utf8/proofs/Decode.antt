@@ -29,7 +29,7 @@ pub decode-nil : decode [] ≡ none
 unfolding decode
 decode-nil = refl
 
--- a character stands before the end
+-- at or past the end: a character stands before it
 pub decode-stands : (t : List ℕ) (i : ℕ) → there (decode (drop i t)) ≡ true → i < length t
 decode-stands t i h = by (decLt i (length t))
   where
@@ -39,7 +39,7 @@ decode-stands t i h = by (decLt i (length t))
         let past : drop i t ≡ [] = drop-of-length-le t {i = i} (omega arith) in
         absurd (true≢false (sym h ∙ ap there (ap decode past ∙ decode-nil)))
 
--- it announces a length, or none
+-- the octet announces a length, or none
 pub decode-first : (a : ℕ) (t : List ℕ) (o : Option ℕ) → announced a ≡ o → decode (a ∷ t) ≡ sequence o a t
 unfolding decode
 decode-first a t o e = rw e

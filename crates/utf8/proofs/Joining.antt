@@ -65,7 +65,7 @@ module _ {n x : ℕ} {t : List ℕ} {i code : ℕ} (j : Joining n x t i code) wh
   pub joining-next : i < n → there (trailed n x t) ≡ true → (i < length t) × Between (getD t i 0)
   joining-next h is = (long, trails-bounds (getD t i 0) (by (trails (getD t i 0)) refl))
     where
-      -- a number that isn't there isn't there
+      -- they come to a number
       not-none : trailed n x t ≡ none → ⊥
       not-none e = true≢false (sym is ∙ ap there e)
 

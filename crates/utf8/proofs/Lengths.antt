@@ -44,14 +44,17 @@ no-octet-differs : lowest (λ o. not (agrees o)) 256 ≡ none
 unfolding lowest leadingZeros leadingOnes announced
 no-octet-differs = refl
 
--- so they all agree
-octet-agrees : (o : ℕ) → o < 256 → agrees o ≡ true
-octet-agrees o h = not-false (agrees o) (lowest-none (λ k. not (agrees k)) 256 no-octet-differs o h)
+-- so of each the leading zeros of the inverted octet are its leading ones, and the length goes by the range
+octet-agrees : (o : ℕ) → o < 256 → (leadingZeros 8 (255 - o) ≡ leadingOnes 8 o) × (announced o ≡ byRange o)
+octet-agrees o h =
+    let counted = eqb (leadingZeros 8 (255 - o)) (leadingOnes 8 o) in
+    let ranged = sameLength (announced o) (byRange o) in
+    let passed = both counted ranged (not-false (agrees o) (lowest-none (λ k. not (agrees k)) 256 no-octet-differs o h)) in
+    (eqb-true (leadingZeros 8 (255 - o)) (leadingOnes 8 o) (passed .0), sameLength-true (announced o) (byRange o) (passed .1))
 
 -- the leading zeros of the inverted octet are the octet's leading ones
 pub leadingZeros-inverted : (o : ℕ) → o < 256 → leadingZeros 8 (255 - o) ≡ leadingOnes 8 o
-leadingZeros-inverted o h =
-    eqb-true _ _ (both (eqb (leadingZeros 8 (255 - o)) (leadingOnes 8 o)) (sameLength (announced o) (byRange o)) (octet-agrees o h) .0)
+leadingZeros-inverted o h = octet-agrees o h .0
 
 -- ---- announced, by the count of leading ones
 
@@ -91,9 +94,7 @@ unfolding announced
 announced-range o = by (decLt o 256)
   where
     by : Dec (o < 256) → announced o ≡ byRange o
-    by (yes h) =
-        let agree = both (eqb (leadingZeros 8 (255 - o)) (leadingOnes 8 o)) (sameLength (announced o) (byRange o)) (octet-agrees o h) in
-        sameLength-true (announced o) (byRange o) (agree .1)
+    by (yes h) = octet-agrees o h .1
     by (no h) =
         ap lengthBy (leadingOnes-full 8 o (omega arith))
         ∙ sym (simp (
