@@ -9,7 +9,7 @@ use lib.Seq.{take-length}
 use Rattle.terms.specs.Lists.{over}
 use Rattle.octets.specs.Put.{Puts}
 use Rattle.sorting.specs.KeyOrder.{keyIn}
-use Rattle.sorting.proofs.Copying.{Copying, copying-start, copying-more, copying-done}
+use Rattle.terms.proofs.Copying.{Copying, copying-start, copying-more, copying-done}
 use Rattle.storing.specs.Stored.{joined, stringsIn}
 use Rattle.storing.proofs.Putting.{Putting, putting-start, putting-room, putting-place, putting-more, putting-done}
 use Rattle.many.specs.Promises.{PutsMany}

@@ -8,7 +8,7 @@ use mathlib.Core.List.{List, [], _∷_, _++_, map, append-nil}
 use lib.ListN.{length, take, drop, getD, drop-of-length-le}
 use lib.Seq.{take-length, length-take-le, getD-drop, getD-append-add}
 use Rattle.terms.specs.Lists.{over}
-use Rattle.sorting.proofs.Copying.{Copying, copying-done}
+use Rattle.terms.proofs.Copying.{Copying, copying-done}
 use Rattle.partners.specs.Groups.{keyRepeats}
 use Rattle.matching.specs.Matching.{repeated}
 

@@ -1,4 +1,3 @@
-pub mod Copying
 pub mod Halves
 pub mod KeyOrders
 pub mod Keys

@@ -1,9 +1,11 @@
 pub mod Begins
 pub mod Checks
+pub mod Copying
 pub mod Injective
 pub mod Lists
 pub mod Lowest
 pub mod Parts
 pub mod PutAt
 pub mod Same
+pub mod Scalars
 pub mod Tests

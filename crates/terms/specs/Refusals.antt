@@ -53,6 +53,10 @@ namesMost = 1024
 abbrev pub endsMost : ℕ
 endsMost = 4294967295
 
+-- the numbers of a page slice that are filled, one for each page of 64 code points (15)
+abbrev pub pagesMost : ℕ
+pagesMost = 17408
+
 -- ---- refusals
 
 -- a refusal by its number, place and detail

@@ -78,6 +78,9 @@ pub const NAMES_MOST: usize = 1024;
 // The most octet strings in one slice that are told by their ends.
 pub const ENDS_MOST: usize = 4294967295;
 
+// The numbers of a page slice that are filled: one for each page of 64 code points.
+pub const PAGES_MOST: usize = 17408;
+
 // The kinds of record.
 pub const KIND_TEXT: u32 = 1;
 
@@ -115,6 +118,8 @@ pub const REFUSED_NAME_COUNT: u32 = 14;
 
 // 8 again: no room for the keys of two lists, or for the numbers of the first list's names.
 pub const REFUSED_LIST_ROOM: u32 = 8;
+
+pub const REFUSED_PAGES: u32 = 15;
 
 pub const REFUSED_LINE_LENGTH: u32 = 20;
 

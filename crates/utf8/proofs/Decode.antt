@@ -17,7 +17,8 @@ use Rattle.terms.proofs.Parts.{drop-part}
 use Rattle.terms.proofs.Tests.{join, none-some}
 use Rattle.utf8.specs.Utf8.{scalar, encode, Character, character, trailed, taken, announced, sequence, decode}
 use Rattle.utf8.specs.Promises.{lengthSaid}
-use Rattle.utf8.proofs.Encode.{encode-one, scalar-most, highBits, trailing, length-trailing, Lead, leadsTwo}
+use Rattle.terms.proofs.Scalars.{scalar-most}
+use Rattle.utf8.proofs.Encode.{encode-one, highBits, trailing, length-trailing, Lead, leadsTwo}
 use Rattle.utf8.proofs.Encode.{leadsThree, leadsFour, encode-longer, longer}
 use Rattle.utf8.proofs.Lengths.{announced-one, announced-lead, Says, alone, leads, beginsNone, says}
 use Rattle.utf8.proofs.Trailed.{trailed-trailing, trailed-some, taken-yes, taken-some}

@@ -2,16 +2,13 @@
 -- and octets that trail with six bits each.
 -- Assumes nothing.
 use mathlib.Core.Path.{_≡_, refl, _∙_, ap}
-use mathlib.Core.Bool.{true, _&&_, not}
 use mathlib.Core.List.{List, [], _∷_}
 use Prim.Native.Nat.{ℕ, zero, suc, _+_, _/_, _%_, _≤_, _<_}
 use native.Mathlib.Decide.{decLt}
 use native.Mathlib.Omega.{arith}
-use lib.Dec.{leb}
 use lib.ListN.{length}
-use borrow.Author.Tests.{leb-true, lt-ltb, le-ltb}
-use Rattle.terms.proofs.Tests.{both}
-use Rattle.utf8.specs.Utf8.{scalar, encode}
+use borrow.Author.Tests.{lt-ltb, le-ltb}
+use Rattle.utf8.specs.Utf8.{encode}
 
 -- ---- by its width
 
@@ -49,10 +46,6 @@ encode-width c = by (decLt c 0x80) (decLt c 0x800) (decLt c 0x10000)
     by (no l) (yes h) r = omega (arith, ap length (encode-two c (omega arith) h))
     by (no l) (no m) (yes h) = omega (arith, ap length (encode-three c (omega arith) h))
     by (no l) (no m) (no n) = omega (arith, ap length (encode-four c (omega arith)))
-
--- a scalar code point is at most 10FFFF
-pub scalar-most : (c : ℕ) → scalar c ≡ true → c ≤ 0x10FFFF
-scalar-most c s = leb-true c 0x10FFFF (both (leb c 0x10FFFF) (not (leb 0xD800 c && leb c 0xDFFF)) s .0)
 
 -- ---- over every width
 

@@ -21,7 +21,7 @@ use Rattle.table.specs.Mapping.{Mapping}
 use Rattle.table.specs.Table.{Table, table, mappingOf}
 use Rattle.table.proofs.Form.{formed-parts-scalar}
 use Rattle.utf8.specs.Utf8.{encodes}
-use Rattle.utf8.proofs.Encode.{scalar-most}
+use Rattle.terms.proofs.Scalars.{scalar-most}
 use Rattle.decompose.specs.Levels.{full}
 use Rattle.decompose.specs.Promises.{Split, Bounded, FullFilled}
 use Rattle.decompose.specs.declared.Unfolded.{Unfolded}

@@ -12,7 +12,7 @@ use Rattle.terms.specs.CodePoints.{scalar}
 use Rattle.terms.specs.Refusals.{levelsMost}
 use Rattle.table.specs.Table.{Table, table, formRefusal, titleOf, entryParts, partsOf, mappingOf}
 use Rattle.table.proofs.Form.{formed-ascending, formed-title-scalar}
-use Rattle.utf8.proofs.Encode.{scalar-most}
+use Rattle.terms.proofs.Scalars.{scalar-most}
 use Rattle.decompose.specs.Promises.{Bounded}
 use Rattle.decompose.proofs.Walk.{listed-none, listed-some, bounded-unfolds, bounded-asks}
 use Rattle.decompose.proofs.Expansion.{expanded-title, filled-title, expanded-plain, filled-plain}

@@ -11,7 +11,7 @@ use borrow.Author.Needs.{needs}
 use borrow.Author.Tests.{ltb-true}
 use Rattle.terms.specs.Refusals.{endsMost}
 use Rattle.terms.proofs.Lists.{all-at}
-use Rattle.sorting.proofs.Copying.{Copying, copying-start, copying-more}
+use Rattle.terms.proofs.Copying.{Copying, copying-start, copying-more}
 use Rattle.matching.proofs.Repeats.{copying-whole, copying-kept, suc-at}
 use Rattle.matching.proofs.rows.count_from_one.Statement.{statement}
 use Rattle.matching.proofs.rows.count_from_one.Tie as tie

@@ -9,7 +9,7 @@ use mathlib.Core.List.{List, map}
 use lib.ListN.{length, getD, set, length-map}
 use borrow.Author.Needs.{needs}
 use Rattle.sorting.specs.KeyOrder.{keyIn}
-use Rattle.sorting.proofs.Copying.{Copying, copying-start, copying-more}
+use Rattle.terms.proofs.Copying.{Copying, copying-start, copying-more}
 use Rattle.matching.specs.Matching.{repeated}
 use Rattle.matching.proofs.Repeats.{copying-whole, length-repeated, repeated-at}
 use Rattle.matching.proofs.rows.mark_repeats.Statement.{statement}

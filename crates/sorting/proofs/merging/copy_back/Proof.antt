@@ -3,7 +3,7 @@
 use Prim.Native.Nat.{_-_}
 use native.Mathlib.Omega.{arith}
 use borrow.Author.Needs.{needs}
-use Rattle.sorting.proofs.Copying.{Copying, copying-start, copying-more, copying-done}
+use Rattle.terms.proofs.Copying.{Copying, copying-start, copying-more, copying-done}
 use Rattle.sorting.proofs.merging.copy_back.Statement.{statement}
 use Rattle.sorting.proofs.merging.copy_back.Tie as tie
 

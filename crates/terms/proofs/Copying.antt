@@ -1,4 +1,4 @@
--- Numbers copied to the start of a row, one after another.
+-- Numbers copied to the start of a row, one after another: what any loop that fills a slice from its start has done so far.
 -- Assumes nothing.
 use mathlib.Core.Path.{_≡_, refl, sym, ap, ap₂, _∙_}
 use Prim.Native.Nat.{ℕ, suc, _+_, _≤_, _<_}
