@@ -1,16 +1,17 @@
 /* Mundeziwa: names compared under the collations of RFC 4790 and RFC 5051, every function proved.
  *
- * Each call of this header takes any octets, any two slices as a table and buffers of any lengths, and ends with an answer.
+ * Each call of this header takes any octets, any two slices as a table, buffers and pages of any lengths, and ends with an answer.
  * Their twins without the check of the table, for callers that keep one table for many texts, are in mundeziwa_accepted.h.
  *
  * The library keeps nothing, allocates nothing and calls nothing but memcpy and memset: no locale, no errno, no global state. Any
  * number of threads may call it at once. All memory is the caller's, lent for the call alone.
  *
- * SLICES. A slice is a pointer and the number of its ELEMENTS (octets of a text, 32-bit numbers of a table). Where the number
- * is 0 the pointer may be anything that is aligned, but not NULL. Slices that are written (key buffers; entries and pool of
- * mz_add_line; the records of mz_write_text and mz_write_key; store, partners and positions of mz_find_shared; store, key_ends and
- * valid of mz_prepare_many; row, repeats and partners of mz_match_keys; the answer) must overlap no other argument; those that
- * are only read may overlap each other.
+ * SLICES. A slice is a pointer and the number of its ELEMENTS (octets of a text, 32-bit numbers of a table, 64-bit numbers of
+ * pages). Where the number is 0 the pointer may be anything that is aligned, but not NULL. Slices that are written (presence and
+ * ranks; key buffers; entries and pool of mz_add_line; the records of mz_write_text and mz_write_key; store, partners and
+ * positions of mz_find_shared; store, key_ends and valid of mz_prepare_many; row, repeats and partners of mz_match_keys; the
+ * answer) must overlap no other argument, nor any of a call that another thread makes at the same time; those that are only read
+ * may overlap each other.
  *
  * TABLE. entries holds MZ_ENTRY_WIDTH numbers for each entry: code point, titlecase (the code point itself if none), start of its
  * decomposition in the pool, number of code points there. Entries ascend by code point; a start is the sum of all earlier counts.
@@ -24,6 +25,17 @@
  * has but two, the ends of their range, which say nothing. A table with an entry for one is refused (4), and so is a line with a
  * mapping for one (25). Earlier libraries left syllables whole: keys of texts with syllables that they made must be made again.
  *
+ * PAGES. A page is 64 code points in a row, and MZ_PAGES of them hold every code point. presence has a number for each page, with
+ * a bit for each code point that has an entry, the lowest code point in the lowest bit; ranks has for each page the number of
+ * entries before it. Entries are found by them. Each call that takes a collation and a table is lent both. Under
+ * MZ_UNICODE_CASEMAP it checks the table and then fills them afresh, exactly MZ_PAGES numbers of each, whatever was there, and
+ * leaves what lies beyond; also where no text is valid, or there is none. If either is under MZ_PAGES long the call is refused
+ * (15). Under the other collations they are neither tested nor touched, whatever their lengths: two empty slices will do.
+ *
+ * So each of these calls under MZ_UNICODE_CASEMAP checks the whole table and fills 272 KiB, which takes a hundred microseconds or
+ * more over the published table, however short the texts are. For many texts use mz_prepare_many or mz_find_shared, which pay it
+ * once, or the calls of mundeziwa_accepted.h, which check nothing and read pages that one call has filled.
+ *
  * KEYS. The key of a text stands at the start of the lent key buffer, and the octets after it stay as they were; but a key that
  * is the text itself (i;octet, and an invalid text under i;unicode-casemap) is not copied, and the buffer stays. Over an
  * accepted table a key has at most 128 octets for each character of its text. A buffer of MZ_KEY_PER_OCTET_MOST times the
@@ -33,9 +45,10 @@
  * ANSWERS. Each call writes the whole of its answer row. answer[0] is the refusal number, 0 if the call was not refused;
  * answer[1] the place: 1 or 2, which text or list (a lone text is 1), 0 neither; answer[2] the detail, which the refusals below
  * name.
- * On a refusal no other lent buffer changes, and all later fields of the row are 0 (but see mz_add_line). The checks run in the
- * order of the refusals below, and the first that applies is answered. A text is never refused for its content, and no call
- * fails in any other way.
+ * On a refusal no other lent slice changes, but for presence and ranks under MZ_UNICODE_CASEMAP: 8 comes after both were filled,
+ * and leaves them so, while every other refusal comes before. All later fields of the row are 0 (but see mz_add_line). The checks
+ * run in the order of the refusals below, and the first that applies is answered. A text is never refused for its content, and no
+ * call fails in any other way.
  */
 #ifndef MUNDEZIWA_H
 #define MUNDEZIWA_H
@@ -47,9 +60,9 @@
 extern "C" {
 #endif
 
-/* The interface that this header describes. A later one may give the same names other parameters: a program that loads the
- * library compares this number with mz_interface() before it makes any other call. */
-#define MZ_INTERFACE 1
+/* The interface that this header describes. A later one may give the same names other parameters, as this one, the first with
+ * pages, does: a program that loads the library compares this number with mz_interface() before it makes any other call. */
+#define MZ_INTERFACE 2
 
 /* Collations. 1 and 2 do not read the table. */
 #define MZ_OCTET 1           /* i;octet: the text is its key */
@@ -65,6 +78,7 @@ extern "C" {
 #define MZ_KEY_PER_OCTET_MOST 128 /* octets of a key for each octet of its text */
 #define MZ_NAMES_MOST 1024        /* names of a list */
 #define MZ_ENDS_MOST 4294967295   /* texts or keys in one slice, told by their ends */
+#define MZ_PAGES 17408            /* pages of 64 code points: the least length of presence and of ranks */
 
 /* Kinds of record. */
 #define MZ_KIND_TEXT 1 /* a text */
@@ -81,6 +95,7 @@ extern "C" {
 #define MZ_REFUSED_ENTRY 5       /* a count over 32, a wrong start, parts past the pool, saying nothing; a pool too long */
 #define MZ_REFUSED_POOL_NUMBER 6 /* a pool number is no Unicode scalar value */
 #define MZ_REFUSED_LEVEL 7       /* an entry or a Hangul syllable does not unfold within 8 levels into at most 32 code points */
+#define MZ_REFUSED_PAGES 15      /* under MZ_UNICODE_CASEMAP, presence or ranks is under MZ_PAGES long */
 #define MZ_REFUSED_KEY_ROOM 8    /* a key that belongs in a buffer is longer than it */
 
 /* Refusals of mz_add_line, in their order; place and detail are 0. */
@@ -103,16 +118,16 @@ extern "C" {
 #define MZ_REFUSED_RECORD_ROOM 8    /* no room for the whole record (the number is also that of MZ_REFUSED_KEY_ROOM) */
 
 /* Refusals of a call on lists, in their order: 1; 11, 12, 13 of the first list's records, one after another, and of the second's,
- * where a record that is no text is refused with 12 whatever its body; 14; 3 to 7 as above; 8 for the store, 8 for the arrays.
- * The place is which list for 11 to 14, else 0. The detail is for 8 of the store the length of all keys together, for 8 of an
- * array the number of the first list's names, for 3 to 7 as above, else 0. */
+ * where a record that is no text is refused with 12 whatever its body; 14; 3 to 7 and 15 as above; 8 for the store, 8 for the
+ * arrays. The place is which list for 11 to 14, else 0. The detail is for 8 of the store the length of all keys together, for 8 of
+ * an array the number of the first list's names, for 3 to 7 as above, else 0. */
 #define MZ_REFUSED_NAME_COUNT 14 /* a list has over MZ_NAMES_MOST names */
 #define MZ_REFUSED_LIST_ROOM 8   /* the store, or one of the arrays, is too short (the number is also those of the other rooms) */
 
-/* Refusals of a call on many texts, in their order: 1; 14, 36; 2; 3 to 7 as above; 8 for the store, 8 for the other two slices.
- * Of a call on many keys: 14, 36; 37; 8 for row and repeats, 8 for partners. The place is 1 for 14, 36 and 2, else 0. The detail
- * is for 36 and 2 the lowest number, from 0, of a text or key that is at fault; for 37 the number of keys; for 8 of the store the
- * length of all keys together, for 8 of any other slice the elements needed; for 3 to 7 as above; else 0. */
+/* Refusals of a call on many texts, in their order: 1; 14, 36; 2; 3 to 7 and 15 as above; 8 for the store, 8 for key_ends and
+ * valid. Of a call on many keys: 14, 36; 37; 8 for row and repeats, 8 for partners. The place is 1 for 14, 36 and 2, else 0. The
+ * detail is for 36 and 2 the lowest number, from 0, of a text or key that is at fault; for 37 the number of keys; for 8 of the
+ * store the length of all keys together, for 8 of any other slice the elements needed; for 3 to 7 as above; else 0. */
 #define MZ_REFUSED_END_COUNT 14   /* over MZ_ENDS_MOST ends (the number is also that of MZ_REFUSED_NAME_COUNT) */
 #define MZ_REFUSED_END 36         /* an end is below the one before it, or past the octets */
 #define MZ_REFUSED_FIRST_COUNT 37 /* the first list is said to have more names than there are keys */
@@ -129,32 +144,38 @@ void mz_check_table(const uint32_t *entries, size_t entries_length,
 
 /* Prepares a text: leaves its key at the start of the key buffer, if it belongs there.
  * answer: number, place, detail; 1 if the text is valid else 0 (always 1 under 1 and 2); the lookup count; the length of the
- * key; where it stands: 0 it is the text, 1 the start of the buffer. Refusals 1 to 8. */
+ * key; where it stands: 0 it is the text, 1 the start of the buffer. Refusals 1 to 7, 15, 8. */
 void mz_prepare(uint32_t collation,
                 const uint8_t *text, size_t text_length,
                 const uint32_t *entries, size_t entries_length,
                 const uint32_t *pool, size_t pool_length,
+                uint64_t *presence, size_t presence_length,
+                uint64_t *ranks, size_t ranks_length,
                 uint8_t *key, size_t key_length,
                 uint64_t answer[7]);
 
 /* Whether two texts have equal keys. Leaves both keys, each in its own buffer, as mz_prepare does.
- * answer: number, place, detail; 1 match, 2 no-match, 0 refused. Refusals 1 to 8. */
+ * answer: number, place, detail; 1 match, 2 no-match, 0 refused. Refusals 1 to 7, 15, 8. */
 void mz_equal(uint32_t collation,
               const uint8_t *first, size_t first_length,
               const uint8_t *second, size_t second_length,
               const uint32_t *entries, size_t entries_length,
               const uint32_t *pool, size_t pool_length,
+              uint64_t *presence, size_t presence_length,
+              uint64_t *ranks, size_t ranks_length,
               uint8_t *first_key, size_t first_key_length,
               uint8_t *second_key, size_t second_key_length,
               uint64_t answer[4]);
 
 /* How the keys of two texts are ordered: octet by octet, unsigned; a proper prefix is less. Leaves both keys as mz_equal does.
- * answer: number, place, detail; 1 less, 2 equal, 3 greater, 0 refused. Refusals 1 to 8. */
+ * answer: number, place, detail; 1 less, 2 equal, 3 greater, 0 refused. Refusals 1 to 7, 15, 8. */
 void mz_order(uint32_t collation,
               const uint8_t *first, size_t first_length,
               const uint8_t *second, size_t second_length,
               const uint32_t *entries, size_t entries_length,
               const uint32_t *pool, size_t pool_length,
+              uint64_t *presence, size_t presence_length,
+              uint64_t *ranks, size_t ranks_length,
               uint8_t *first_key, size_t first_key_length,
               uint8_t *second_key, size_t second_key_length,
               uint64_t answer[4]);
@@ -163,12 +184,14 @@ void mz_order(uint32_t collation,
  * answer: number, place, detail; 1 match, 2 no-match, 0 refused; start and end of the lowest occurrence of the first key in the
  * second key; start and end of the smallest run of whole characters of the second text that covers it (of octets, under 1 and 2
  * and where the text is not valid). Ends are one past the last octet; all four are 0 where there is no match, and where the
- * first text is empty (a match). Refusals 1 to 8. */
+ * first text is empty (a match). Refusals 1 to 7, 15, 8. */
 void mz_substring(uint32_t collation,
                   const uint8_t *first, size_t first_length,
                   const uint8_t *second, size_t second_length,
                   const uint32_t *entries, size_t entries_length,
                   const uint32_t *pool, size_t pool_length,
+                  uint64_t *presence, size_t presence_length,
+                  uint64_t *ranks, size_t ranks_length,
                   uint8_t *first_key, size_t first_key_length,
                   uint8_t *second_key, size_t second_key_length,
                   uint64_t answer[8]);
@@ -228,12 +251,14 @@ void mz_write_key(uint32_t collation, uint64_t valid, uint64_t text_length,
  * three stay as they were after that. Partners and positions need one element for each name of the first list. A store of
  * MZ_KEY_PER_OCTET_MOST times the octets of all names is always long enough, and the call is then quickest.
  * answer: number, place, detail; names in the first list; names in the second; equal pairs across the lists (equal names within
- * a list count separately); names of the first list that have any partner. Refusals 1, 11 to 14, 3 to 7, 8. */
+ * a list count separately); names of the first list that have any partner. Refusals 1, 11 to 14, 3 to 7, 15, 8. */
 void mz_find_shared(uint32_t collation,
                     const uint8_t *first, size_t first_length,
                     const uint8_t *second, size_t second_length,
                     const uint32_t *entries, size_t entries_length,
                     const uint32_t *pool, size_t pool_length,
+                    uint64_t *presence, size_t presence_length,
+                    uint64_t *ranks, size_t ranks_length,
                     uint8_t *store, size_t store_length,
                     uint32_t *partners, size_t partners_length,
                     uint32_t *positions, size_t positions_length,
@@ -242,19 +267,22 @@ void mz_find_shared(uint32_t collation,
 /* MANY. Many texts, or many keys, stand one after another in one slice of octets with nothing between them, and a second slice
  * says where each of them ends: number i, from 0, begins where the one before it ends, the first at 0, and ends before octet
  * ends[i]. (Apache Arrow lays strings out so: pass its offsets from the second on.) Octets after the last end belong to none.
- * Both calls take as many as there are, up to MZ_ENDS_MOST, and check the table once or read none: they are the ones for work. */
+ * Both calls take as many as there are, up to MZ_ENDS_MOST; the one checks the table and fills the pages once, and the other is
+ * lent neither: they are the ones for work. */
 
 /* Prepares many texts, each by itself. Leaves three things: at the start of store the keys of all texts, one after another with
  * nothing between them, also those that are the text itself; in key_ends where each of them ends; in valid 1 for each text that
  * is valid else 0 (always 1 under 1 and 2). All three stay as they were after that. key_ends and valid need one element for each
  * text. A store of MZ_KEY_PER_OCTET_MOST times the octets of all texts is always long enough, and the call is then quickest; a
  * shorter one costs a second walk. Called with no store, it says by 8 how long the keys are.
- * answer: number, place, detail; the octets of all keys together. Refusals 1, 14, 36, 2, 3 to 7, 8. */
+ * answer: number, place, detail; the octets of all keys together. Refusals 1, 14, 36, 2, 3 to 7, 15, 8. */
 void mz_prepare_many(uint32_t collation,
                      const uint8_t *octets, size_t octets_length,
                      const size_t *ends, size_t ends_length,
                      const uint32_t *entries, size_t entries_length,
                      const uint32_t *pool, size_t pool_length,
+                     uint64_t *presence, size_t presence_length,
+                     uint64_t *ranks, size_t ranks_length,
                      uint8_t *store, size_t store_length,
                      size_t *key_ends, size_t key_ends_length,
                      uint8_t *valid, size_t valid_length,

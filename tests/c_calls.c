@@ -15,7 +15,13 @@ static const uint32_t entries[] = {
 };
 static const uint32_t pool[] = {0x45, 0x301, 0x65, 0x301, 0x5A, 0x30C, 0x7A, 0x30C, 0x44, 0x17D, 0x44, 0x17E, 0x64, 0x17E, 0x66, 0x69};
 
+/* The page slices, each one number longer than what is filled. */
+static uint64_t presence[MZ_PAGES + 1], ranks[MZ_PAGES + 1];
+
 #define TABLE entries, COUNT(entries), pool, COUNT(pool)
+#define PAGES presence, COUNT(presence), ranks, COUNT(ranks)
+#define SHORT_PRESENCE presence, MZ_PAGES - 1, ranks, COUNT(ranks)
+#define SHORT_RANKS presence, COUNT(presence), ranks, MZ_PAGES - 1
 #define TEXT(octets) (const uint8_t *)(octets), sizeof(octets) - 1
 
 static void expect(const char *call, const uint64_t *answer, const uint64_t *expected, size_t n) {
@@ -58,36 +64,71 @@ static void check_tables(void) {
 static void prepare_texts(void) {
     uint8_t key[4] = {1, 2, 3, 4}, jamo[9];
     uint64_t answer[7];
-    mz_prepare(MZ_UNICODE_CASEMAP, TEXT("\xC3\xA9"), TABLE, key, sizeof key, answer);
+    mz_prepare(MZ_UNICODE_CASEMAP, TEXT("\xC3\xA9"), TABLE, PAGES, key, sizeof key, answer);
     EXPECT("mz_prepare", answer, 0, 0, 0, 1, 4, 3, 1);
     expect_octets("mz_prepare's key", key, "\x45\xCC\x81\x04", 4);
-    mz_prepare_accepted(MZ_UNICODE_CASEMAP, TEXT("\xC3"), TABLE, key, sizeof key, answer);
+    mz_prepare_accepted(MZ_UNICODE_CASEMAP, TEXT("\xC3"), TABLE, PAGES, key, sizeof key, answer);
     EXPECT("mz_prepare_accepted of a broken text", answer, 0, 0, 0, 0, 0, 1, 0);
     expect_octets("the buffer after a broken text", key, "\x45\xCC\x81\x04", 4);
-    mz_prepare(MZ_UNICODE_CASEMAP, TEXT("\xC3\xA9"), TABLE, key, 2, answer);
+    mz_prepare(MZ_UNICODE_CASEMAP, TEXT("\xC3\xA9"), TABLE, PAGES, key, 2, answer);
     EXPECT("mz_prepare with a short buffer", answer, MZ_REFUSED_KEY_ROOM, 1, 3, 0, 0, 0, 0);
-    mz_prepare(MZ_UNICODE_CASEMAP, TEXT("\xEA\xB0\x81"), TABLE, jamo, sizeof jamo, answer);
+    mz_prepare(MZ_UNICODE_CASEMAP, TEXT("\xEA\xB0\x81"), TABLE, PAGES, jamo, sizeof jamo, answer);
     EXPECT("mz_prepare of a Hangul syllable", answer, 0, 0, 0, 1, 5, 9, 1);
     expect_octets("a Hangul syllable's key", jamo, "\xE1\x84\x80\xE1\x85\xA1\xE1\x86\xA8", 9);
+}
+
+/* What no call leaves in a page slice. */
+#define SPOILT UINT64_C(0xAAAAAAAAAAAAAAAA)
+
+static void spoil_pages(void) {
+    memset(presence, 0xAA, sizeof presence);
+    memset(ranks, 0xAA, sizeof ranks);
+}
+
+/* Some pages of table T and the first number beyond them: the bits, and the entries before. Or all are spoilt still. */
+static void expect_pages(const char *what, int are_filled) {
+    static const uint64_t pages[][3] = {
+        {0, 0, 0}, {1, UINT64_C(0x400024200000000), 0}, {2, 0, 4}, {3, UINT64_C(0x20000000200), 4}, {7, 0x70, 8},
+        {1004, 2, 11}, {1005, 0, 12}, {MZ_PAGES - 1, 0, 12}, {MZ_PAGES, SPOILT, SPOILT},
+    };
+    for (size_t at = 0; at < COUNT(pages); at++) {
+        const uint64_t page = pages[at][0], left[] = {presence[page], ranks[page]};
+        EXPECT(what, left, are_filled ? pages[at][1] : SPOILT, are_filled ? pages[at][2] : SPOILT);
+    }
+}
+
+static void fill_pages(void) {
+    uint8_t key[2];
+    uint64_t answer[7];
+    spoil_pages();
+    mz_prepare(MZ_ASCII_CASEMAP, TEXT("a"), TABLE, presence, 0, ranks, COUNT(ranks), key, sizeof key, answer);
+    EXPECT("mz_prepare under i;ascii-casemap", answer, 0, 0, 0, 1, 0, 1, 1);
+    expect_pages("pages under i;ascii-casemap", 0);
+    mz_prepare(MZ_UNICODE_CASEMAP, TEXT("\xC3\xA9"), TABLE, PAGES, key, sizeof key, answer);
+    EXPECT("mz_prepare with a short buffer", answer, MZ_REFUSED_KEY_ROOM, 1, 3, 0, 0, 0, 0);
+    expect_pages("pages after a refusal for room", 1);
+    mz_prepare_accepted(MZ_UNICODE_CASEMAP, TEXT("z"), TABLE, PAGES, key, sizeof key, answer);
+    EXPECT("mz_prepare_accepted", answer, 0, 0, 0, 1, 2, 1, 1);
+    expect_pages("pages that are only read", 1);
 }
 
 static void compare_texts(void) {
     uint8_t first_key[8], second_key[8];
     uint64_t answer[4], place[8];
 #define KEYS first_key, sizeof first_key, second_key, sizeof second_key
-    mz_equal(MZ_UNICODE_CASEMAP, TEXT("\xC3\xA9"), TEXT("\xC3\x89"), TABLE, KEYS, answer);
+    mz_equal(MZ_UNICODE_CASEMAP, TEXT("\xC3\xA9"), TEXT("\xC3\x89"), TABLE, PAGES, KEYS, answer);
     EXPECT("mz_equal", answer, 0, 0, 0, 1);
-    mz_equal_accepted(MZ_UNICODE_CASEMAP, TEXT("\xC3\xA9"), TEXT("e"), TABLE, KEYS, answer);
+    mz_equal_accepted(MZ_UNICODE_CASEMAP, TEXT("\xC3\xA9"), TEXT("e"), TABLE, PAGES, KEYS, answer);
     EXPECT("mz_equal_accepted", answer, 0, 0, 0, 2);
-    mz_order(MZ_UNICODE_CASEMAP, TEXT("\x45"), TEXT("\xC3\xA9"), TABLE, KEYS, answer);
+    mz_order(MZ_UNICODE_CASEMAP, TEXT("\x45"), TEXT("\xC3\xA9"), TABLE, PAGES, KEYS, answer);
     EXPECT("mz_order", answer, 0, 0, 0, 1);
-    mz_order_accepted(MZ_UNICODE_CASEMAP, TEXT("\xC3"), TEXT("\xC3\xA9"), TABLE, KEYS, answer);
+    mz_order_accepted(MZ_UNICODE_CASEMAP, TEXT("\xC3"), TEXT("\xC3\xA9"), TABLE, PAGES, KEYS, answer);
     EXPECT("mz_order_accepted", answer, 0, 0, 0, 3);
-    mz_order(4, TEXT("a"), TEXT("a"), TABLE, KEYS, answer);
+    mz_order(4, TEXT("a"), TEXT("a"), TABLE, PAGES, KEYS, answer);
     EXPECT("mz_order under collation 4", answer, MZ_REFUSED_COLLATION, 0, 0, 0);
-    mz_substring(MZ_UNICODE_CASEMAP, TEXT("\xCC\x81"), TEXT("\x61\xC3\xA9"), TABLE, KEYS, place);
+    mz_substring(MZ_UNICODE_CASEMAP, TEXT("\xCC\x81"), TEXT("\x61\xC3\xA9"), TABLE, PAGES, KEYS, place);
     EXPECT("mz_substring", place, 0, 0, 0, 1, 2, 4, 1, 3);
-    mz_substring_accepted(MZ_UNICODE_CASEMAP, TEXT("z"), TEXT("\x61\xC3\xA9"), TABLE, KEYS, place);
+    mz_substring_accepted(MZ_UNICODE_CASEMAP, TEXT("z"), TEXT("\x61\xC3\xA9"), TABLE, PAGES, KEYS, place);
     EXPECT("mz_substring_accepted", place, 0, 0, 0, 2, 0, 0, 0, 0);
 }
 
@@ -168,13 +209,13 @@ static void find_shared_names(void) {
     uint32_t partners[4] = {9, 9, 9, 9}, positions[4] = {9, 9, 9, 9};
     uint64_t answer[7];
 #define REPORT store, sizeof store, partners, COUNT(partners), positions, COUNT(positions)
-    mz_find_shared(MZ_UNICODE_CASEMAP, TEXT(FIRST_LIST), TEXT(SECOND_LIST), TABLE, REPORT, answer);
+    mz_find_shared(MZ_UNICODE_CASEMAP, TEXT(FIRST_LIST), TEXT(SECOND_LIST), TABLE, PAGES, REPORT, answer);
     EXPECT("mz_find_shared", answer, 0, 0, 0, 3, 2, 2, 2);
     expect_octets("mz_find_shared's store", store, "Z\x45\xCC\x81ZbZ\x09", sizeof store);
     expect_numbers("mz_find_shared's partners", partners, (const uint32_t[]){2, 0, 2, 9}, COUNT(partners));
     expect_numbers("mz_find_shared's positions", positions, (const uint32_t[]){2, 1, 3, 9}, COUNT(positions));
 
-    mz_find_shared_accepted(MZ_OCTET, TEXT(FIRST_LIST), TEXT(SECOND_LIST), TABLE, REPORT, answer);
+    mz_find_shared_accepted(MZ_OCTET, TEXT(FIRST_LIST), TEXT(SECOND_LIST), TABLE, PAGES, REPORT, answer);
     EXPECT("mz_find_shared_accepted under i;octet", answer, 0, 0, 0, 3, 2, 1, 1);
     expect_octets("mz_find_shared_accepted's store", store, "z\xC3\xA9Zbz\x5A\x09", sizeof store);
     expect_numbers("mz_find_shared_accepted's partners", partners, (const uint32_t[]){2, 0, 0, 9}, COUNT(partners));
@@ -188,19 +229,19 @@ static void refuse_lists(void) {
     static uint8_t names[6 * (MZ_NAMES_MOST + 1)];
     for (size_t at = 0; at < sizeof names; at += 6)
         memcpy(names + at, "\x02\0\0\0\x01\0", 6);
-    mz_find_shared(4, TEXT("\x03"), TEXT(""), TABLE, REPORT, answer);
+    mz_find_shared(4, TEXT("\x03"), TEXT(""), TABLE, PAGES, REPORT, answer);
     EXPECT("mz_find_shared under collation 4", answer, MZ_REFUSED_COLLATION, 0, 0, 0, 0, 0, 0);
-    mz_find_shared(MZ_UNICODE_CASEMAP, TEXT(FIRST_LIST), TEXT(SECOND_LIST "\x03"), TABLE, REPORT, answer);
+    mz_find_shared(MZ_UNICODE_CASEMAP, TEXT(FIRST_LIST), TEXT(SECOND_LIST "\x03"), TABLE, PAGES, REPORT, answer);
     EXPECT("mz_find_shared of a cut list", answer, MZ_REFUSED_RECORD_LENGTH, 2, 0, 0, 0, 0, 0);
-    mz_find_shared(MZ_OCTET, TEXT(FIRST_LIST KEY_RECORD), TEXT(SECOND_LIST), TABLE, REPORT, answer);
+    mz_find_shared(MZ_OCTET, TEXT(FIRST_LIST KEY_RECORD), TEXT(SECOND_LIST), TABLE, PAGES, REPORT, answer);
     EXPECT("mz_find_shared of a key", answer, MZ_REFUSED_RECORD_KIND, 1, 0, 0, 0, 0, 0);
-    mz_find_shared(MZ_OCTET, TEXT(FIRST_LIST), names, sizeof names, TABLE, REPORT, answer);
+    mz_find_shared(MZ_OCTET, TEXT(FIRST_LIST), names, sizeof names, TABLE, PAGES, REPORT, answer);
     EXPECT("mz_find_shared of too many names", answer, MZ_REFUSED_NAME_COUNT, 2, 0, 0, 0, 0, 0);
-    mz_find_shared(MZ_UNICODE_CASEMAP, TEXT(""), TEXT(""), entries, 3, pool, 0, REPORT, answer);
+    mz_find_shared(MZ_UNICODE_CASEMAP, TEXT(""), TEXT(""), entries, 3, pool, 0, PAGES, REPORT, answer);
     EXPECT("mz_find_shared over a faulty table", answer, MZ_REFUSED_TABLE_SIZE, 0, 0, 0, 0, 0, 0);
-    mz_find_shared(MZ_UNICODE_CASEMAP, TEXT(FIRST_LIST), TEXT(SECOND_LIST), TABLE, store, 6, partners, 2, positions, 3, answer);
+    mz_find_shared(MZ_UNICODE_CASEMAP, TEXT(FIRST_LIST), TEXT(SECOND_LIST), TABLE, PAGES, store, 6, partners, 2, positions, 3, answer);
     EXPECT("mz_find_shared with a short store", answer, MZ_REFUSED_LIST_ROOM, 0, 7, 0, 0, 0, 0);
-    mz_find_shared(MZ_UNICODE_CASEMAP, TEXT(FIRST_LIST), TEXT(SECOND_LIST), TABLE, store, 7, partners, 3, positions, 2, answer);
+    mz_find_shared(MZ_UNICODE_CASEMAP, TEXT(FIRST_LIST), TEXT(SECOND_LIST), TABLE, PAGES, store, 7, partners, 3, positions, 2, answer);
     EXPECT("mz_find_shared with a short array", answer, MZ_REFUSED_LIST_ROOM, 0, 3, 0, 0, 0, 0);
     expect_octets("the store after refusals", store, "\x09\x09\x09\x09\x09\x09\x09", sizeof store);
     expect_numbers("partners after refusals", partners, (const uint32_t[]){9, 9, 9}, COUNT(partners));
@@ -216,12 +257,12 @@ static void prepare_many_texts(void) {
     size_t key_ends[6] = {9, 9, 9, 9, 9, 9};
     uint64_t answer[4];
 #define LEFT store, sizeof store, key_ends, COUNT(key_ends), valid, sizeof valid
-    mz_prepare_many(MZ_UNICODE_CASEMAP, MANY, TABLE, LEFT, answer);
+    mz_prepare_many(MZ_UNICODE_CASEMAP, MANY, TABLE, PAGES, LEFT, answer);
     EXPECT("mz_prepare_many", answer, 0, 0, 0, 7);
     expect_octets("mz_prepare_many's store", store, "Z\x45\xCC\x81Z\xC3Z\x09", sizeof store);
     expect_sizes("mz_prepare_many's key ends", key_ends, (const size_t[]){1, 4, 5, 6, 7, 9}, COUNT(key_ends));
     expect_octets("mz_prepare_many's valid", valid, "\1\1\1\0\1\x09", sizeof valid);
-    mz_prepare_many(MZ_OCTET, TEXT(""), ends, 0, entries, 3, pool, 0, store, 0, key_ends, 0, valid, 0, answer);
+    mz_prepare_many(MZ_OCTET, TEXT(""), ends, 0, entries, 3, pool, 0, PAGES, store, 0, key_ends, 0, valid, 0, answer);
     EXPECT("mz_prepare_many of no texts, over a table that isn't read", answer, 0, 0, 0, 0);
 }
 
@@ -231,19 +272,19 @@ static void refuse_many_texts(void) {
     uint8_t store[7] = {9, 9, 9, 9, 9, 9, 9}, valid[5] = {9, 9, 9, 9, 9};
     size_t key_ends[5] = {9, 9, 9, 9, 9};
     uint64_t answer[4];
-    mz_prepare_many(4, TEXT("a"), past, COUNT(past), TABLE, LEFT, answer);
+    mz_prepare_many(4, TEXT("a"), past, COUNT(past), TABLE, PAGES, LEFT, answer);
     EXPECT("mz_prepare_many under collation 4", answer, MZ_REFUSED_COLLATION, 0, 0, 0);
-    mz_prepare_many(MZ_OCTET, TEXT("abc"), falling, COUNT(falling), TABLE, LEFT, answer);
+    mz_prepare_many(MZ_OCTET, TEXT("abc"), falling, COUNT(falling), TABLE, PAGES, LEFT, answer);
     EXPECT("mz_prepare_many with an end that falls", answer, MZ_REFUSED_END, 1, 2, 0);
-    mz_prepare_many(MZ_OCTET, TEXT("a"), past, COUNT(past), TABLE, LEFT, answer);
+    mz_prepare_many(MZ_OCTET, TEXT("a"), past, COUNT(past), TABLE, PAGES, LEFT, answer);
     EXPECT("mz_prepare_many with an end past the octets", answer, MZ_REFUSED_END, 1, 0, 0);
-    mz_prepare_many(MZ_OCTET, long_text, sizeof long_text, one, COUNT(one), TABLE, LEFT, answer);
+    mz_prepare_many(MZ_OCTET, long_text, sizeof long_text, one, COUNT(one), TABLE, PAGES, LEFT, answer);
     EXPECT("mz_prepare_many of a long text", answer, MZ_REFUSED_TEXT_LENGTH, 1, 0, 0);
-    mz_prepare_many(MZ_UNICODE_CASEMAP, TEXT(""), ends, 0, entries, 3, pool, 0, LEFT, answer);
+    mz_prepare_many(MZ_UNICODE_CASEMAP, TEXT(""), ends, 0, entries, 3, pool, 0, PAGES, LEFT, answer);
     EXPECT("mz_prepare_many over a faulty table", answer, MZ_REFUSED_TABLE_SIZE, 0, 0, 0);
-    mz_prepare_many(MZ_UNICODE_CASEMAP, MANY, TABLE, store, 6, key_ends, 4, valid, 5, answer);
+    mz_prepare_many(MZ_UNICODE_CASEMAP, MANY, TABLE, PAGES, store, 6, key_ends, 4, valid, 5, answer);
     EXPECT("mz_prepare_many with a short store", answer, MZ_REFUSED_MANY_ROOM, 0, 7, 0);
-    mz_prepare_many(MZ_UNICODE_CASEMAP, MANY, TABLE, store, 7, key_ends, 5, valid, 4, answer);
+    mz_prepare_many(MZ_UNICODE_CASEMAP, MANY, TABLE, PAGES, store, 7, key_ends, 5, valid, 4, answer);
     EXPECT("mz_prepare_many with a short slice", answer, MZ_REFUSED_MANY_ROOM, 0, 5, 0);
     expect_octets("the store after refusals", store, "\x09\x09\x09\x09\x09\x09\x09", sizeof store);
     expect_sizes("key ends after refusals", key_ends, (const size_t[]){9, 9, 9, 9, 9}, COUNT(key_ends));
@@ -281,10 +322,35 @@ static void refuse_keys_of_two_lists(void) {
     expect_numbers("partners after refusals", partners, (const uint32_t[]){9, 9, 9}, COUNT(partners));
 }
 
+/* One of the page slices is too short, and there is no room, which would be refused after that. */
+static void refuse_pages(void) {
+    uint8_t octets[1];
+    uint32_t array[1];
+    uint64_t prepared[7], answer[4], place[8], report[7];
+#define SHORT_PRESENCE presence, MZ_PAGES - 1, ranks, COUNT(ranks)
+#define SHORT_RANKS presence, COUNT(presence), ranks, MZ_PAGES - 1
+#define NO_KEYS octets, 0, octets, 0
+    spoil_pages();
+    mz_prepare(MZ_UNICODE_CASEMAP, TEXT("a"), TABLE, SHORT_PRESENCE, octets, 0, prepared);
+    EXPECT("mz_prepare with short pages", prepared, MZ_REFUSED_PAGES, 0, 0, 0, 0, 0, 0);
+    mz_equal(MZ_UNICODE_CASEMAP, TEXT("a"), TEXT("a"), TABLE, SHORT_RANKS, NO_KEYS, answer);
+    EXPECT("mz_equal with short pages", answer, MZ_REFUSED_PAGES, 0, 0, 0);
+    mz_order(MZ_UNICODE_CASEMAP, TEXT("a"), TEXT("a"), entries, 3, pool, 0, SHORT_PRESENCE, NO_KEYS, answer);
+    EXPECT("mz_order with short pages over a faulty table", answer, MZ_REFUSED_TABLE_SIZE, 0, 0, 0);
+    mz_substring(MZ_UNICODE_CASEMAP, TEXT("a"), TEXT("a"), TABLE, SHORT_RANKS, NO_KEYS, place);
+    EXPECT("mz_substring with short pages", place, MZ_REFUSED_PAGES, 0, 0, 0, 0, 0, 0, 0);
+    mz_find_shared(MZ_UNICODE_CASEMAP, TEXT(FIRST_LIST), TEXT(""), TABLE, SHORT_PRESENCE, octets, 0, array, 0, array, 0, report);
+    EXPECT("mz_find_shared with short pages", report, MZ_REFUSED_PAGES, 0, 0, 0, 0, 0, 0);
+    mz_prepare_many(MZ_UNICODE_CASEMAP, MANY, TABLE, SHORT_RANKS, octets, 0, (size_t[1]){0}, 0, octets, 0, answer);
+    EXPECT("mz_prepare_many with short pages", answer, MZ_REFUSED_PAGES, 0, 0, 0);
+    expect_pages("pages after refusals", 0);
+}
+
 int main(void) {
     check_interface();
     check_tables();
     prepare_texts();
+    fill_pages();
     compare_texts();
     build_table();
     write_records();
@@ -293,6 +359,7 @@ int main(void) {
     refuse_lists();
     prepare_many_texts();
     refuse_many_texts();
+    refuse_pages();
     match_keys_of_two_lists();
     refuse_keys_of_two_lists();
     puts("the C interface answers as the documents say");

@@ -41,7 +41,7 @@ readelf -d build/c_calls_shared | grep -qF "[libmundeziwa.so.$interface]" || fai
 # crates/table (9 is the program's alone; the interface's number is compared above)
 header=$(awk '$1 == "#define" && NF > 2 { sub("MZ_", "", $2); print $2, $3 }' include/mundeziwa.h | sort)
 terms=$(awk '$1 == "pub" && $2 == "const" { print $3, $6 }' crates/terms/src/lib.rt crates/table/src/layout.rt | tr -d ':;' \
-    | sed 's/^EXPANSION_MOST /KEY_PER_OCTET_MOST /' | grep -v '^REFUSED_NO_TAB ' | sort)
+    | sed 's/^EXPANSION_MOST /KEY_PER_OCTET_MOST /;s/^PAGES_MOST /PAGES /' | grep -v '^REFUSED_NO_TAB ' | sort)
 same 'the header and crates/terms have different numbers' '' \
     "$(comm -23 <(grep -v '^INTERFACE ' <<< "$header") <(echo "$terms"))"
 same 'the header and crates/terms have different refusals' "$(grep '^REFUSED_' <<< "$header")" "$(grep '^REFUSED_' <<< "$terms")"

@@ -107,19 +107,25 @@ echo "${#names[@]} mistakes, all found"
 try_each 2 << 'END' || fail "a part doesn't find by itself what it should"
 mistake_titlecase_0_if_none 2
 mistake_field_12_ignored 2
+mistake_pages_rank_counts_its_own_bit 2
 mistake_overlong_accepted 3
 mistake_last_occurrence 4
 mistake_field_12_ignored 4
+mistake_pages_own_entries_counted_before 4
 mistake_marks_sorted 5
 mistake_29_after_24 5
 mistake_syllable_unchecked 5
 mistake_syllable_line_taken 5
+mistake_pages_15_after_8 5
+mistake_pages_left_on_8 5
 mistake_record_129_times_taken 6
 mistake_record_8_writes_what_fits 6
 mistake_list_last_partner 7
 mistake_list_1025_names_taken 7
+mistake_list_15_before_7 7
 mistake_many_ties_reversed 8
 mistake_many_8_key_ends_before_store 8
+mistake_many_15_after_8 8
 mistake_syllable_always_of_three_parts 9
 mistake_syllable_range_ends_before_d7a3 9
 mistake_syllable_not_asked_for_its_titlecase 9

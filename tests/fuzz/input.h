@@ -19,6 +19,8 @@
  * MANY texts are a collation, a table, which end is put elsewhere and where, how many octets follow the last text, how many names
  * the first list has, the lengths of all six slices that the two calls write, and the texts, each a name (names.h, many.c).
  *
+ * Texts, lists and many texts end with an octet that says how long the page slices are (paging.h).
+ *
  * Of the stored inputs (corpus), those with a name were written by hand; each found_NN, which libFuzzer found, raises some counter that no
  * other input does. */
 #ifndef INPUT_H

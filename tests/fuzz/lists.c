@@ -1,22 +1,20 @@
 /* mz_find_shared, in both forms: two lists under a collation, over a table, with a store and two arrays. What other calls say of
  * the lists' records, of the table and of each name is what the report must agree with. */
 #include "expect.h"
-#include "mundeziwa.h"
+#include "forms.h"
 #include "mundeziwa_accepted.h"
 #include "names.h"
+#include "paging.h"
 #include <string.h>
 
 #define LIST_ROOM 65536    /* octets that a list of a case may have */
-#define PAIRS_COMPARED 64  /* the most pairs of names that are given to mz_equal, each by itself */
+#define PAIRS_COMPARED 64  /* the most pairs of names that are given to mz_equal_accepted, each by itself */
 
 /* What becomes known of two lists; the kinds that `note` is given. */
 enum kind { SHARED_ANSWERED = 28, NAMES_READ, PAIRS, PARTNERED };
 
 /* 8 for an array, as a number beside the refusals' own. */
-#define ARRAY_ANSWERED 15
-
-typedef void sharing(uint32_t, const uint8_t *, size_t, const uint8_t *, size_t, const uint32_t *, size_t, const uint32_t *, size_t,
-                     uint8_t *, size_t, uint32_t *, size_t, uint32_t *, size_t, uint64_t *);
+#define ARRAY_ANSWERED 9
 
 struct list {
     uint8_t octets[LIST_ROOM];
@@ -33,6 +31,7 @@ struct lists {
     struct table table;
     struct list list[2];
     struct rooms rooms;
+    struct page_rooms page_rooms;
 };
 
 /* What other calls say of two lists. */
@@ -116,15 +115,15 @@ static void learn_names(const struct list *list, uint64_t *refused, size_t *coun
     }
 }
 
-/* The key of each name by mz_prepare, one after another. */
+/* The key of each name by mz_prepare_accepted, one after another, over the pages that were learnt. */
 static void learn_keys(const struct lists *lists, int which, struct known *known) {
     static uint8_t buffer[MZ_KEY_PER_OCTET_MOST * MZ_TEXT_MOST];
     const struct table *table = &lists->table;
     for (size_t at = 0; at < known->counts[which] && at < MZ_NAMES_MOST; at++) {
         const uint8_t *name = lists->list[which].octets + known->names[which][at].start;
         uint64_t row[7];
-        mz_prepare(lists->collation, name, known->names[which][at].length, table->entries, table->entries_length, table->pool,
-                   table->pool_length, buffer, sizeof buffer, row);
+        mz_prepare_accepted(lists->collation, name, known->names[which][at].length, table->entries, table->entries_length,
+                            table->pool, table->pool_length, LEARNT, buffer, sizeof buffer, row);
         EXPECT(row[0] == 0);
         known->keys[which][at] = (struct part){known->total, row[5]};
         if (row[5] <= LENT_MOST && known->total <= LENT_MOST - row[5])
@@ -136,6 +135,7 @@ static void learn_keys(const struct lists *lists, int which, struct known *known
 static void learn(const struct lists *lists, struct known *known) {
     const struct table *table = &lists->table;
     mz_check_table(table->entries, table->entries_length, table->pool, table->pool_length, known->verdict);
+    EXPECT(learn_pages(table) == (known->verdict[0] == 0));
     known->total = 0;
     for (int which = 0; which < 2; which++)
         learn_names(&lists->list[which], &known->refused[which], &known->counts[which], known->names[which]);
@@ -161,6 +161,8 @@ static void refusal_due(const struct lists *lists, const struct known *known, ui
         due[1] = over[0] ? 1 : 2;
     } else if (lists->collation == MZ_UNICODE_CASEMAP && known->verdict[0] != 0) {
         memcpy(due, known->verdict, sizeof known->verdict);
+    } else if (are_short(lists->collation, lists->page_rooms)) {
+        due[0] = MZ_REFUSED_PAGES;
     } else if (known->total > lists->rooms.store) {
         due[0] = MZ_REFUSED_LIST_ROOM;
         due[2] = known->total;
@@ -172,15 +174,15 @@ static void refusal_due(const struct lists *lists, const struct known *known, ui
 
 /* ---- what must hold of a report */
 
-/* mz_equal says of two names what their keys say. */
+/* mz_equal_accepted says of two names what their keys say. */
 static void expect_equality(const struct lists *lists, const struct known *known, size_t one, size_t other, int is_equal) {
     static uint8_t keys[2][MZ_KEY_PER_OCTET_MOST * MZ_TEXT_MOST];
     const struct part *first = &known->names[0][one], *second = &known->names[1][other];
     const struct table *table = &lists->table;
     uint64_t row[4];
-    mz_equal(lists->collation, lists->list[0].octets + first->start, first->length, lists->list[1].octets + second->start,
-             second->length, table->entries, table->entries_length, table->pool, table->pool_length, keys[0], sizeof keys[0], keys[1],
-             sizeof keys[1], row);
+    mz_equal_accepted(lists->collation, lists->list[0].octets + first->start, first->length,
+                      lists->list[1].octets + second->start, second->length, table->entries, table->entries_length, table->pool,
+                      table->pool_length, LEARNT, keys[0], sizeof keys[0], keys[1], sizeof keys[1], row);
     EXPECT(row[0] == 0 && row[3] == (is_equal ? 1 : 2));
 }
 
@@ -245,7 +247,8 @@ static void expect_report(const struct lists *lists, const struct known *known, 
 /* ---- the calls */
 
 /* Makes the call in one form, in one kind of memory. */
-static void find_shared(sharing *call, enum memory memory, const struct lists *lists, const struct known *known, uint64_t row[7]) {
+static void find_shared(const struct forms *forms, enum memory memory, const struct lists *lists, const struct known *known,
+                        uint64_t row[7]) {
     const struct table *table = &lists->table;
     const struct list *list = lists->list;
     const struct rooms *rooms = &lists->rooms;
@@ -259,11 +262,14 @@ static void find_shared(sharing *call, enum memory memory, const struct lists *l
         lend(memory, PARTNERS, pattern, rooms->partners * sizeof(uint32_t)),
         lend(memory, POSITIONS, pattern, rooms->positions * sizeof(uint32_t)),
     };
+    int are_filled = forms->reads_pages && lists->collation == MZ_UNICODE_CASEMAP;
+    struct pages pages = lend_pages(memory, lists->page_rooms, are_filled);
     struct lent answer = lend(memory, ANSWER, row, 7 * sizeof *row);
-    call(lists->collation, first.at, first.size, second.at, second.size, entries.at, table->entries_length, pool.at,
-         table->pool_length, report.store.at, report.store.size, report.partners.at, rooms->partners, report.positions.at,
-         rooms->positions, answer.at);
+    forms->find_shared(lists->collation, first.at, first.size, second.at, second.size, entries.at, table->entries_length, pool.at,
+                       table->pool_length, LENT(pages), report.store.at, report.store.size, report.partners.at, rooms->partners,
+                       report.positions.at, rooms->positions, answer.at);
     memcpy(row, answer.at, answer.size);
+    end_pages(pages, lists->collation, row[0]);
     EXPECT(is_kept(first, list[0].octets) && is_kept(second, list[1].octets));
     EXPECT(is_kept(entries, table->entries) && is_kept(pool, table->pool));
     expect_report(lists, known, report, row);
@@ -275,13 +281,14 @@ static void find_shared(sharing *call, enum memory memory, const struct lists *l
 /* Both forms, where the header allows the one without the check of the table, and all kinds of memory give the same row. */
 static void find_everywhere(const struct lists *lists, const struct known *known, uint64_t row[7]) {
     uint64_t again[7];
-    int is_allowed = lists->collation != MZ_UNICODE_CASEMAP || known->verdict[0] == 0;
+    int is_filled = known->verdict[0] == 0 && !are_short(lists->collation, lists->page_rooms);
+    int is_allowed = lists->collation != MZ_UNICODE_CASEMAP || is_filled;
     for (enum memory memory = 0; memory < MEMORIES; memory++) {
-        find_shared(mz_find_shared, memory, lists, known, memory == 0 ? row : again);
+        find_shared(&checked, memory, lists, known, memory == 0 ? row : again);
         EXPECT(memory == 0 || memcmp(row, again, sizeof again) == 0);
         if (!is_allowed)
             continue;
-        find_shared(mz_find_shared_accepted, memory, lists, known, again);
+        find_shared(&accepted, memory, lists, known, again);
         EXPECT(memcmp(row, again, sizeof again) == 0);
     }
 }
@@ -295,7 +302,7 @@ static void expect_exchanged(struct lists *lists, struct known *known, const uin
     lists->list[1] = list;
     learn(lists, known);
     lists->rooms = (struct rooms){known->total < LENT_MOST ? known->total : LENT_MOST, known->counts[0], known->counts[0]};
-    find_shared(mz_find_shared, BEFORE_SHUT_PAGES, lists, known, exchanged);
+    find_shared(&checked, BEFORE_SHUT_PAGES, lists, known, exchanged);
     EXPECT(row[0] != 0 || (exchanged[3] == row[4] && exchanged[4] == row[3] && exchanged[5] == row[5]));
 }
 
@@ -313,6 +320,7 @@ void fuzz_lists(const uint8_t *data, size_t size) {
     const uint8_t rooms[] = {take_octet(&input), take_octet(&input), take_octet(&input)};
     for (int which = 0; which < 2; which++)
         take_list(&input, &lists.list[which], &stock);
+    lists.page_rooms = take_page_rooms(&input);
     learn(&lists, &known);
     struct input kept = {rooms, sizeof rooms};
     lists.rooms.store = take_room(&kept, MZ_KEY_PER_OCTET_MOST * (lists.list[0].length + lists.list[1].length), known.total);

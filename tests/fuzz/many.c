@@ -1,8 +1,9 @@
 /* mz_prepare_many and mz_match_keys: many texts under a collation, over a table; then the keys that they have, and the texts
  * themselves as keys. What other calls say of the table and of each text is what must be left. */
 #include "expect.h"
-#include "mundeziwa.h"
+#include "mundeziwa_accepted.h"
 #include "names.h"
+#include "paging.h"
 #include <string.h>
 
 #define TEXTS_MOST 1064    /* texts that a case may have */
@@ -34,6 +35,7 @@ struct texts {
     size_t length, ends[TEXTS_MOST], count;
     size_t first_names;
     struct rooms rooms;
+    struct page_rooms page_rooms;
 };
 
 /* What other calls say of the table and of each text. */
@@ -112,15 +114,15 @@ static struct many of_texts(const struct texts *texts) {
     return (struct many){texts->octets, texts->length, texts->ends, texts->count};
 }
 
-/* The key of each text by mz_prepare, one after another. */
+/* The key of each text by mz_prepare_accepted, one after another, over the pages that were learnt. */
 static void learn_keys(const struct texts *texts, struct known *known) {
     static uint8_t buffer[MZ_KEY_PER_OCTET_MOST * MZ_TEXT_MOST];
     const struct table *table = &texts->table;
     for (size_t number = 0; number < texts->count; number++) {
         struct part part = part_of(of_texts(texts), number);
         uint64_t row[7];
-        mz_prepare(texts->collation, texts->octets + part.start, part.length, table->entries, table->entries_length, table->pool,
-                   table->pool_length, buffer, sizeof buffer, row);
+        mz_prepare_accepted(texts->collation, texts->octets + part.start, part.length, table->entries, table->entries_length,
+                            table->pool, table->pool_length, LEARNT, buffer, sizeof buffer, row);
         EXPECT(row[0] == 0);
         if (row[5] <= LENT_MOST && known->total <= LENT_MOST - row[5])
             memcpy(known->octets + known->total, row[6] == 1 ? buffer : texts->octets + part.start, row[5]);
@@ -133,6 +135,7 @@ static void learn_keys(const struct texts *texts, struct known *known) {
 static void learn(const struct texts *texts, struct known *known) {
     const struct table *table = &texts->table;
     mz_check_table(table->entries, table->entries_length, table->pool, table->pool_length, known->verdict);
+    EXPECT(learn_pages(table) == (known->verdict[0] == 0));
     known->total = known->long_text = 0;
     if (fault_of(of_texts(texts)) < texts->count)
         return;
@@ -162,6 +165,8 @@ static void refusal_of_texts(const struct texts *texts, const struct known *know
         refuse(due, MZ_REFUSED_TEXT_LENGTH, 1, known->long_text);
     else if (texts->collation == MZ_UNICODE_CASEMAP && known->verdict[0] != 0)
         refuse(due, known->verdict[0], known->verdict[1], known->verdict[2]);
+    else if (are_short(texts->collation, texts->page_rooms))
+        refuse(due, MZ_REFUSED_PAGES, 0, 0);
     else if (known->total > rooms->store)
         refuse(due, MZ_REFUSED_MANY_ROOM, 0, known->total);
     else if (texts->count > rooms->key_ends || texts->count > rooms->valid)
@@ -243,10 +248,13 @@ static void prepare_many(enum memory memory, const struct texts *texts, const st
     struct lent store = lend(memory, STORE, pattern, rooms->store);
     struct lent key_ends = lend(memory, KEY_ENDS, pattern, rooms->key_ends * sizeof(size_t));
     struct lent valid = lend(memory, VALID, pattern, rooms->valid);
+    struct pages pages = lend_pages(memory, texts->page_rooms, 0);
     struct lent answer = lend(memory, ANSWER, row, 4 * sizeof *row);
     mz_prepare_many(texts->collation, octets.at, octets.size, ends.at, texts->count, entries.at, table->entries_length, pool.at,
-                    table->pool_length, store.at, store.size, key_ends.at, rooms->key_ends, valid.at, valid.size, answer.at);
+                    table->pool_length, LENT(pages), store.at, store.size, key_ends.at, rooms->key_ends, valid.at, valid.size,
+                    answer.at);
     memcpy(row, answer.at, answer.size);
+    end_pages(pages, texts->collation, row[0]);
     EXPECT(is_kept(octets, texts->octets) && is_kept(ends, texts->ends));
     EXPECT(is_kept(entries, table->entries) && is_kept(pool, table->pool));
     refusal_of_texts(texts, known, due);
@@ -331,6 +339,7 @@ void fuzz_many(const uint8_t *data, size_t size) {
         octets[at] = take_octet(&input);
     struct input kept = {octets, sizeof octets};
     take_texts(&input, &texts, &stock);
+    texts.page_rooms = take_page_rooms(&input);
     size_t which = take_octet(&kept);
     move_end(&texts, which, take_octet(&kept));
     put_rest(&texts, take_octet(&kept) % 8);

@@ -1,32 +1,22 @@
 /* The calls on texts, in both forms: two texts under a collation, over a table, with two key buffers. */
 #define _GNU_SOURCE
 #include "expect.h"
+#include "forms.h"
 #include "input.h"
-#include "mundeziwa.h"
 #include "mundeziwa_accepted.h"
+#include "paging.h"
 #include <string.h>
 
 /* What becomes known of a case; the kinds that `note` is given. */
 enum kind { TABLE_CHECKED = 8, TABLE_DETAIL, PREPARED, LOOKUPS, KEY_LENGTH, EQUAL, ORDER, SUBSTRING, RUN, MOVED };
 
-typedef void preparing(uint32_t, const uint8_t *, size_t, const uint32_t *, size_t, const uint32_t *, size_t, uint8_t *, size_t,
-                       uint64_t *);
-typedef void comparing(uint32_t, const uint8_t *, size_t, const uint8_t *, size_t, const uint32_t *, size_t, const uint32_t *, size_t,
-                       uint8_t *, size_t, uint8_t *, size_t, uint64_t *);
-
-struct forms {
-    preparing *prepare;
-    comparing *equal, *order, *substring;
-};
-
-static const struct forms checked = {mz_prepare, mz_equal, mz_order, mz_substring};
-static const struct forms accepted = {mz_prepare_accepted, mz_equal_accepted, mz_order_accepted, mz_substring_accepted};
-
 struct pair {
     uint32_t collation;
     struct table table;
+    int is_accepted; /* the table; then its pages are learnt */
     struct text texts[2];
     size_t rooms[2]; /* lengths of the key buffers */
+    struct page_rooms page_rooms;
 };
 
 /* A text with its buffer's length and, once it is prepared, its key. */
@@ -44,13 +34,20 @@ struct rows {
     uint64_t prepared[2][7], equal[4], order[4], flipped[4], substring[8];
 };
 
+/* Whether the header allows calls without the check of the table: they read it under one collation alone. */
+static int is_allowed(const struct pair *pair) {
+    return pair->collation != MZ_UNICODE_CASEMAP || pair->is_accepted;
+}
+
 /* The length that the key of the first octets of a text has, in a buffer that is always long enough; 0 if the call is refused. */
 static size_t key_length_of(const struct pair *pair, const struct text *text, size_t length) {
     static uint8_t key[LENT_MOST];
     const struct table *table = &pair->table;
     uint64_t row[7];
-    mz_prepare(pair->collation, text->octets, length, table->entries, table->entries_length, table->pool, table->pool_length, key,
-               sizeof key, row);
+    if (!is_allowed(pair))
+        return 0;
+    mz_prepare_accepted(pair->collation, text->octets, length, table->entries, table->entries_length, table->pool,
+                        table->pool_length, LEARNT, key, sizeof key, row);
     return row[5];
 }
 
@@ -89,10 +86,12 @@ static void take_pair(struct input *input, struct pair *pair) {
     static const uint32_t collations[] = {3, 3, 3, 3, 2, 1, 0, 4};
     pair->collation = collations[take_octet(input) % 8];
     take_table(input, &pair->table);
+    pair->is_accepted = learn_pages(&pair->table);
     take_text(input, &pair->texts[0]);
     take_second(input, &pair->texts[1], &pair->texts[0]);
     for (int text = 0; text < 2; text++)
         pair->rooms[text] = take_room(input, pair, &pair->texts[text]);
+    pair->page_rooms = take_page_rooms(input);
 }
 
 /* The table and an answer row, lent for one call. */
@@ -114,7 +113,7 @@ static struct surroundings lend_surroundings(const struct pair *pair, enum memor
 static void end_surroundings(struct surroundings lent, const struct pair *pair, uint64_t *row, size_t length) {
     EXPECT(is_kept(lent.entries, pair->table.entries) && is_kept(lent.pool, pair->table.pool));
     memcpy(row, lent.answer.at, lent.answer.size);
-    EXPECT(row[0] <= MZ_REFUSED_KEY_ROOM);
+    EXPECT(row[0] <= MZ_REFUSED_KEY_ROOM || row[0] == MZ_REFUSED_PAGES);
     if (row[0] != 0)
         expect_refusal(row, length);
     else
@@ -130,10 +129,23 @@ static void check_table(const struct pair *pair, enum memory memory, uint64_t ro
     struct surroundings lent = lend_surroundings(pair, memory, row, 3);
     mz_check_table(TABLE_OF(lent, pair), lent.answer.at);
     end_surroundings(lent, pair, row, 3);
-    EXPECT(row[0] == 0 || row[0] >= MZ_REFUSED_TABLE_SIZE);
-    EXPECT(row[0] != MZ_REFUSED_KEY_ROOM && row[1] == 0);
+    EXPECT(row[0] == 0 || (row[0] >= MZ_REFUSED_TABLE_SIZE && row[0] <= MZ_REFUSED_LEVEL));
+    EXPECT(row[1] == 0 && pair->is_accepted == (row[0] == 0));
     note(TABLE_CHECKED, row[0]);
     note_size(TABLE_DETAIL, row[2]);
+}
+
+/* Slices for a call of one form: one that reads pages is lent those that were learnt. */
+static struct pages lend_pages_to(const struct pair *pair, enum memory memory, const struct forms *forms) {
+    return lend_pages(memory, pair->page_rooms, forms->reads_pages && pair->collation == MZ_UNICODE_CASEMAP);
+}
+
+/* 15 comes of short slices alone, and nothing comes after it: neither 8 nor an answer. */
+static void expect_pages(const struct pair *pair, struct pages pages, const uint64_t *row) {
+    int are_too_short = are_short(pair->collation, pair->page_rooms);
+    EXPECT(row[0] != MZ_REFUSED_PAGES || (are_too_short && row[1] == 0 && row[2] == 0));
+    EXPECT(!are_too_short || (row[0] != 0 && row[0] != MZ_REFUSED_KEY_ROOM));
+    end_pages(pages, pair->collation, row[0]);
 }
 
 /* A key that belongs in the buffer stands at its start if the call was not refused; every other octet of the buffer stays. */
@@ -176,13 +188,15 @@ static void expect_recorded(const struct pair *pair, const struct side *side, ui
 }
 
 /* Prepares one text, and keeps its key in `storage` if it belongs in the buffer. */
-static void prepare(const struct pair *pair, enum memory memory, preparing *call, struct side *side, uint8_t *storage,
+static void prepare(const struct pair *pair, enum memory memory, const struct forms *forms, struct side *side, uint8_t *storage,
                     uint64_t row[7]) {
     struct lent text = lend(memory, FIRST, side->text->octets, side->text->length);
     struct lent buffer = lend(memory, FIRST_KEY, pattern, side->room);
+    struct pages pages = lend_pages_to(pair, memory, forms);
     struct surroundings lent = lend_surroundings(pair, memory, row, 7);
-    call(pair->collation, text.at, text.size, TABLE_OF(lent, pair), buffer.at, buffer.size, lent.answer.at);
+    forms->prepare(pair->collation, text.at, text.size, TABLE_OF(lent, pair), LENT(pages), buffer.at, buffer.size, lent.answer.at);
     end_surroundings(lent, pair, row, 7);
+    expect_pages(pair, pages, row);
     EXPECT(is_kept(text, side->text->octets));
     side->refused = row[0] != 0;
     side->in_buffer = row[6] == 1;
@@ -203,16 +217,18 @@ static void prepare(const struct pair *pair, enum memory memory, preparing *call
 }
 
 /* Makes a comparing call. It leaves both keys as the preparations did. */
-static void compare(const struct pair *pair, enum memory memory, comparing *call, const struct side *one, const struct side *other,
-                    uint64_t *row, size_t length) {
+static void compare(const struct pair *pair, enum memory memory, const struct forms *forms, comparing *call, const struct side *one,
+                    const struct side *other, uint64_t *row, size_t length) {
     struct lent first = lend(memory, FIRST, one->text->octets, one->text->length);
     struct lent second = lend(memory, SECOND, other->text->octets, other->text->length);
     struct lent first_key = lend(memory, FIRST_KEY, pattern, one->room);
     struct lent second_key = lend(memory, SECOND_KEY, pattern, other->room);
+    struct pages pages = lend_pages_to(pair, memory, forms);
     struct surroundings lent = lend_surroundings(pair, memory, row, length);
-    call(pair->collation, first.at, first.size, second.at, second.size, TABLE_OF(lent, pair), first_key.at, first_key.size,
-         second_key.at, second_key.size, lent.answer.at);
+    call(pair->collation, first.at, first.size, second.at, second.size, TABLE_OF(lent, pair), LENT(pages), first_key.at,
+         first_key.size, second_key.at, second_key.size, lent.answer.at);
     end_surroundings(lent, pair, row, length);
+    expect_pages(pair, pages, row);
     EXPECT(is_kept(first, one->text->octets) && is_kept(second, other->text->octets));
     EXPECT((row[0] != 0) == (one->refused || other->refused));
     expect_buffer(first_key, one, row[0] == 0);
@@ -297,12 +313,12 @@ static void make_calls(const struct pair *pair, enum memory memory, const struct
     struct side sides[2];
     for (int text = 0; text < 2; text++) {
         sides[text] = (struct side){.text = &pair->texts[text], .room = pair->rooms[text]};
-        prepare(pair, memory, forms->prepare, &sides[text], storage[text], rows->prepared[text]);
+        prepare(pair, memory, forms, &sides[text], storage[text], rows->prepared[text]);
     }
-    compare(pair, memory, forms->equal, &sides[0], &sides[1], rows->equal, 4);
-    compare(pair, memory, forms->order, &sides[0], &sides[1], rows->order, 4);
-    compare(pair, memory, forms->order, &sides[1], &sides[0], rows->flipped, 4);
-    compare(pair, memory, forms->substring, &sides[0], &sides[1], rows->substring, 8);
+    compare(pair, memory, forms, forms->equal, &sides[0], &sides[1], rows->equal, 4);
+    compare(pair, memory, forms, forms->order, &sides[0], &sides[1], rows->order, 4);
+    compare(pair, memory, forms, forms->order, &sides[1], &sides[0], rows->flipped, 4);
+    compare(pair, memory, forms, forms->substring, &sides[0], &sides[1], rows->substring, 8);
     expect_rows(pair, sides, rows);
 }
 
@@ -319,7 +335,7 @@ void fuzz_texts(const uint8_t *data, size_t size) {
         if (memory == 0)
             first = rows;
         EXPECT(memcmp(&rows, &first, sizeof rows) == 0);
-        if (pair.collation == MZ_UNICODE_CASEMAP && verdict[0] != 0)
+        if (!is_allowed(&pair) || are_short(pair.collation, pair.page_rooms))
             continue;
         make_calls(&pair, memory, &accepted, &rows);
         EXPECT(memcmp(&rows, &first, sizeof rows) == 0);

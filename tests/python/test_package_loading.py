@@ -19,7 +19,7 @@ try:
 except mundeziwa.LibraryError as error:
     print(error)
 """
-OTHER_INTERFACE = "{} has interface 7, and this package is written for interface 1"
+OTHER_INTERFACE = "{} has interface {}, and this package is written for interface 2"
 
 
 class Loading(unittest.TestCase):
@@ -28,9 +28,9 @@ class Loading(unittest.TestCase):
         self.addCleanup(folder.cleanup)
         self.folder = Path(folder.name)
 
-    def shared_object(self, source):
-        """A shared object of some lines of C."""
-        path, lines = self.folder / "other.so", self.folder / "other.c"
+    def shared_object(self, source, name="other.so"):
+        """A shared object of some lines of C; of two with one name the loader would give the first again."""
+        path, lines = self.folder / name, self.folder / "other.c"
         lines.write_text(source)
         subprocess.run(["cc", "-shared", "-fPIC", "-o", path, lines], check=True)
         return path
@@ -48,14 +48,26 @@ class Loading(unittest.TestCase):
         shutil.copytree(PACKAGE, self.folder / place / "mundeziwa", ignore=shutil.ignore_patterns("lib", "__pycache__"))
         return self.folder / place
 
+    def with_interface(self, number):
+        """A shared object that has nothing but an interface's number."""
+        return self.shared_object(f"unsigned mz_interface(void) {{ return {number}; }}", f"interface_{number}.so")
+
     def test_another_interface(self):
-        path = self.shared_object("unsigned mz_interface(void) { return 7; }")
-        with self.assertRaises(mundeziwa.LibraryError) as caught:
-            library.load(path)
-        self.assertEqual(str(caught.exception), OTHER_INTERFACE.format(path))
+        # 1 is that of earlier libraries, whose calls are lent no pages.
+        for number in (1, 7):
+            path = self.with_interface(number)
+            with self.assertRaises(mundeziwa.LibraryError) as caught:
+                library.load(path)
+            self.assertEqual(str(caught.exception), OTHER_INTERFACE.format(path, number))
+
+    def test_an_earlier_library_is_not_found(self):
+        place = self.folder / "build/lib"
+        place.mkdir(parents=True)
+        shutil.copyfile(library.library()._name, place / "libmundeziwa.so.1")
+        self.assertRegex(self.run_python(self.copied("bindings/python")), "^the library is not there ")
 
     def test_calls_that_are_missing(self):
-        path = self.shared_object("unsigned mz_interface(void) { return 1; }")
+        path = self.with_interface(library.INTERFACE)
         with self.assertRaisesRegex(mundeziwa.LibraryError, f"^{path} has no call mz_[a-z_]*: .*, so run make lib again$"):
             library.load(path)
 
@@ -82,11 +94,11 @@ class Loading(unittest.TestCase):
     def test_each_place(self):
         real, folder = library.library()._name, self.copied("bindings/python")
         self.assertEqual(self.run_python(folder, named=real), "45cc81")
-        wrong = self.shared_object("unsigned mz_interface(void) { return 7; }")
+        wrong = self.with_interface(7)
         for place, found in ((self.folder / "build/lib", wrong), (folder / "mundeziwa/lib", real)):
             place.mkdir(parents=True)
             shutil.copyfile(found, place / library.FILE_NAME)
-            said = "45cc81" if found is real else OTHER_INTERFACE.format(place / library.FILE_NAME)
+            said = "45cc81" if found is real else OTHER_INTERFACE.format(place / library.FILE_NAME, 7)
             self.assertEqual(self.run_python(folder), said)
 
     def test_the_interface_is_the_headers(self):

@@ -18,6 +18,8 @@ COLLATIONS = ("unicode", "ascii", "octet")
 PARTS = ["e", "E", "é", "É", "e\u0301", "E\u0301", "ß", "ss", "SS", "ﬁ", "fi", "Ω", "ω", "\u2126", "ё", "İ", "i", "x" * 40, " "]
 PARTS += ["한", "하\u11ab", "\u1112\u1161\u11ab"]
 BROKEN = [b"\xc3", b"\xff", b"\xed\xa0\x80", b"\xc3\xa9\x80"]
+# MZ_PAGES of include/mundeziwa.h.
+PAGES = 17408
 
 
 def random_name(source):
@@ -43,11 +45,12 @@ def find_shared(table, collation, first, second):
     lists = [b"".join(struct.pack("<IH", 2 + len(name), 1) + name for name in map(octets_of, names)) for names in (first, second)]
     store = bytearray(128 * sum(map(len, lists)))
     partners, positions = array("I", [0]) * len(first), array("I", [0]) * len(first)
+    presence, ranks = array("Q", [0]) * PAGES, array("Q", [0]) * PAGES
     octets, slices = [ctypes.c_char_p, ctypes.c_size_t], [ctypes.c_void_p, ctypes.c_size_t]
     call, answer = library().mz_find_shared, (ctypes.c_uint64 * 7)()
-    call.restype, call.argtypes = None, [ctypes.c_uint32] + octets * 2 + slices * 5 + [ctypes.c_void_p]
+    call.restype, call.argtypes = None, [ctypes.c_uint32] + octets * 2 + slices * 7 + [ctypes.c_void_p]
     texts = [argument for records in lists for argument in (records, len(records))]
-    tables = (*lent(table.entries), *lent(table.pool))
+    tables = (*lent(table.entries), *lent(table.pool), *lent(presence), *lent(ranks))
     call(COLLATIONS[::-1].index(collation) + 1, *texts, *tables, *lent(store), *lent(partners), *lent(positions), answer)
     assert answer[0] == 0 and list(answer[3:5]) == [len(first), len(second)], list(answer)
     return (*answer[5:], partners, positions)

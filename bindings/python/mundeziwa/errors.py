@@ -21,6 +21,7 @@ _SENTENCES = {
     13: "a text or a text's length is over 4096, a key's body is too short, or its collation, flag or lengths are none that a "
     "record has",
     14: "{list} has more names than are taken",
+    15: "a page slice has under 17408 numbers",
     20: "the line has over 512 octets",
     21: "the line has not exactly 14 semicolons",
     22: f"field 0 {_CODE_POINT} (a byte order mark at the file's start is part of it)",

@@ -9,18 +9,20 @@ from ctypes import c_char_p, c_size_t, c_uint32, c_uint64, c_void_p
 from .errors import LibraryError
 
 # The interface that this package is written for: MZ_INTERFACE of include/mundeziwa.h.
-INTERFACE = 1
+INTERFACE = 2
 FILE_NAME = f"libmundeziwa.so.{INTERFACE}"
 ENVIRONMENT = "MUNDEZIWA_LIBRARY"
 
 # What each call takes: octets that are read (bytes), slices that are lent (see `lent`), lengths and numbers.
 _OCTETS, _LENT = [c_char_p, c_size_t], [c_void_p, c_size_t]
-_TABLE = _LENT + _LENT
+# Entries and pool, and the two slices of their pages.
+_TABLE = _LENT + _LENT + _LENT + _LENT
+_ONE_TEXT = [c_uint32] + _OCTETS + _TABLE + _LENT + [c_void_p]
 _TWO_TEXTS = [c_uint32] + _OCTETS + _OCTETS + _TABLE + _LENT + _LENT + [c_void_p]
 _CALLS = {
     "mz_add_line": [c_uint64] * 3 + _OCTETS + _LENT + _LENT + [c_void_p],
-    "mz_check_table": _TABLE + [c_void_p],
-    "mz_prepare_accepted": [c_uint32] + _OCTETS + _TABLE + _LENT + [c_void_p],
+    "mz_prepare": _ONE_TEXT,
+    "mz_prepare_accepted": _ONE_TEXT,
     "mz_equal_accepted": _TWO_TEXTS,
     "mz_order_accepted": _TWO_TEXTS,
     "mz_substring_accepted": _TWO_TEXTS,

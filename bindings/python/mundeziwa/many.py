@@ -5,6 +5,7 @@ from typing import NamedTuple
 
 from .errors import Refused
 from .library import answer, lent
+from .pages import Room
 from .pieces import Keys
 
 # The most octets of a key for each octet of its text: MZ_KEY_PER_OCTET_MOST.
@@ -14,6 +15,8 @@ STORE_MOST_AT_FIRST = 16 << 20
 # The first octets of nearly all Hangul syllables, and of hardly anything else. A syllable has 3 octets, and its key 6 or 9.
 SYLLABLE_LEADS = (b"\xeb", b"\xec", b"\xed")
 REFUSED_ROOM = 8
+
+_ROOM = Room()
 
 
 class Matches(NamedTuple):
@@ -40,9 +43,9 @@ def _store_at_first(octets):
 
 
 def prepare_many(collation, texts, table):
-    """The keys of texts over what is lent of a table."""
+    """The keys of texts over the entries and the pool that are lent of a table, which the call checks."""
     key_ends, valid = _zeros("Q", len(texts)), bytearray(len(texts))
-    slices = (texts.octets, len(texts.octets), *lent(texts.ends), *table)
+    slices = (texts.octets, len(texts.octets), *lent(texts.ends), *table, *_ROOM.slices)
     store = bytearray(_store_at_first(texts.octets))
     row = answer("mz_prepare_many", 4, collation, *slices, *lent(store), *lent(key_ends), *lent(valid))
     if row[0] == REFUSED_ROOM:

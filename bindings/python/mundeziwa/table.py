@@ -10,8 +10,9 @@ from . import unicode_data
 from .errors import Refused, TableError, sentence
 from .library import answer, lent
 from .many import KEY_PER_OCTET_MOST, match_keys, prepare_many
+from .pages import lend_pages
 from .report import Duplicates, Report
-from .texts import collation_name, collation_number, joined, listed, octets_of
+from .texts import COLLATIONS, collation_name, collation_number, joined, listed, octets_of
 
 # The most octets of a text, MZ_TEXT_MOST, and the refusal of a longer one.
 TEXT_MOST = 4096
@@ -69,12 +70,13 @@ class Table:
 
     def __init__(self, entries, pool, edition):
         self.entries, self.pool, self.edition = array("I", entries), array("I", pool), edition
-        # These copies are what the calls read. Nobody can reach them to change them after the check, which is what the calls of
-        # include/mundeziwa_accepted.h ask for.
-        self._slices = (*lent(array("I", self.entries)), *lent(array("I", self.pool)))
-        row = answer("mz_check_table", 3, *self._slices)
+        # These copies and the pages are what the calls read. Nobody can reach them to change them after the check, which is what
+        # the calls of include/mundeziwa_accepted.h ask for.
+        self._numbers, self._pages = (*lent(array("I", self.entries)), *lent(array("I", self.pool))), lend_pages()
+        # The empty text has no fault: the call is refused as the check of the table by itself, or else leaves the table's pages.
+        row = answer("mz_prepare", 7, COLLATIONS["unicode"], b"", 0, *self._numbers, *self._pages, *lent(bytearray()))
         if row[0]:
-            raise TableError(*row, f"{edition}: {sentence(*row, len(self))}")
+            raise TableError(*row[:3], f"{edition}: {sentence(*row[:3], len(self))}")
 
     @classmethod
     @functools.lru_cache(maxsize=None)
@@ -110,7 +112,7 @@ class Table:
         """The key of a text."""
         number, octets = collation_number(collation), octets_of(text)
         buffer = _key_buffer(octets)
-        row = answer("mz_prepare_accepted", 7, number, octets, len(octets), *self._slices, *lent(buffer))
+        row = answer("mz_prepare_accepted", 7, number, octets, len(octets), *self._numbers, *self._pages, *lent(buffer))
         if row[0]:
             raise Refused(*row[:3], _too_long("the text", row[2]) if row[0] == REFUSED_TEXT_LENGTH else None)
         return bytes(buffer[: row[5]]) if row[6] else octets
@@ -119,7 +121,7 @@ class Table:
         """Makes a call on two texts, and gives its answer row."""
         number, first, second = collation_number(collation), octets_of(first), octets_of(second)
         texts, buffers = (first, len(first), second, len(second)), map(_key_buffer, (first, second))
-        row = answer(call, width, number, *texts, *self._slices, *chain.from_iterable(map(lent, buffers)))
+        row = answer(call, width, number, *texts, *self._numbers, *self._pages, *chain.from_iterable(map(lent, buffers)))
         if row[0]:
             raise Refused(*row[:3])
         return row
@@ -143,7 +145,7 @@ class Table:
     def _keys_of(self, names, number, lists):
         """The keys of the names of lists, which are joined already; the lists stand under what names them in an error."""
         try:
-            return prepare_many(number, names, self._slices)
+            return prepare_many(number, names, self._numbers)
         except Refused as refused:
             if refused.number != REFUSED_TEXT_LENGTH:
                 raise

@@ -1,19 +1,35 @@
 //! The calls of include/mundeziwa.h and include/mundeziwa_accepted.h. A slice is a pointer and the number of its elements; an
-//! answer is a row of so many numbers.
+//! answer is a row of so many numbers. The two page slices, presence and ranks, are written by a call that checks the table, and
+//! read by its twin that doesn't: `P` is how they are pointed to, so that the one can't be taken for the other.
 //!
 //! The comparison with the second program (tests/compare) takes its declarations from this file, and makes the calls that this
 //! crate has no use for.
 #![allow(dead_code)]
 
 /// MZ_INTERFACE of the header that these declarations render.
-pub const INTERFACE: u32 = 1;
+pub const INTERFACE: u32 = 2;
 
-/// A call on one text: collation; text; entries, pool; key; answer.
-pub type Preparing =
-    unsafe extern "C" fn(u32, *const u8, usize, *const u32, usize, *const u32, usize, *mut u8, usize, *mut [u64; 7]);
+/// A call on one text: collation; text; entries, pool; presence, ranks; key; answer.
+pub type Preparing<P = *mut u64> = unsafe extern "C" fn(
+    u32,
+    *const u8,
+    usize,
+    *const u32,
+    usize,
+    *const u32,
+    usize,
+    P,
+    usize,
+    P,
+    usize,
+    *mut u8,
+    usize,
+    *mut [u64; 7],
+);
 
-/// A call on two texts that answers a row of N numbers: collation; first, second; entries, pool; first key, second key; answer.
-pub type Comparing<const N: usize> = unsafe extern "C" fn(
+/// A call on two texts that answers a row of N numbers: collation; first, second; entries, pool; presence, ranks; first key,
+/// second key; answer.
+pub type Comparing<const N: usize, P = *mut u64> = unsafe extern "C" fn(
     u32,
     *const u8,
     usize,
@@ -22,6 +38,10 @@ pub type Comparing<const N: usize> = unsafe extern "C" fn(
     *const u32,
     usize,
     *const u32,
+    usize,
+    P,
+    usize,
+    P,
     usize,
     *mut u8,
     usize,
@@ -30,8 +50,8 @@ pub type Comparing<const N: usize> = unsafe extern "C" fn(
     *mut [u64; N],
 );
 
-/// A call on two lists: collation; first, second; entries, pool; store, partners, positions; answer.
-pub type Sharing = unsafe extern "C" fn(
+/// A call on two lists: collation; first, second; entries, pool; presence, ranks; store, partners, positions; answer.
+pub type Sharing<P = *mut u64> = unsafe extern "C" fn(
     u32,
     *const u8,
     usize,
@@ -40,6 +60,10 @@ pub type Sharing = unsafe extern "C" fn(
     *const u32,
     usize,
     *const u32,
+    usize,
+    P,
+    usize,
+    P,
     usize,
     *mut u8,
     usize,
@@ -107,6 +131,10 @@ extern "C" {
         entries_length: usize,
         pool: *const u32,
         pool_length: usize,
+        presence: *mut u64,
+        presence_length: usize,
+        ranks: *mut u64,
+        ranks_length: usize,
         store: *mut u8,
         store_length: usize,
         key_ends: *mut usize,
@@ -132,9 +160,9 @@ extern "C" {
     );
 }
 
-/// Declares calls on one text.
+/// Declares calls on one text, by how they are lent pages.
 macro_rules! preparing {
-    ($($name:ident),*) => {
+    ($pages:ty: $($name:ident),*) => {
         extern "C" {
             $(pub fn $name(
                 collation: u32,
@@ -144,6 +172,10 @@ macro_rules! preparing {
                 entries_length: usize,
                 pool: *const u32,
                 pool_length: usize,
+                presence: $pages,
+                presence_length: usize,
+                ranks: $pages,
+                ranks_length: usize,
                 key: *mut u8,
                 key_length: usize,
                 answer: *mut [u64; 7],
@@ -152,9 +184,9 @@ macro_rules! preparing {
     };
 }
 
-/// Declares calls on two texts that answer rows of so many numbers.
+/// Declares calls on two texts that answer rows of so many numbers, by how they are lent pages.
 macro_rules! comparing {
-    ($n:literal: $($name:ident),*) => {
+    ($n:literal, $pages:ty: $($name:ident),*) => {
         extern "C" {
             $(pub fn $name(
                 collation: u32,
@@ -166,6 +198,10 @@ macro_rules! comparing {
                 entries_length: usize,
                 pool: *const u32,
                 pool_length: usize,
+                presence: $pages,
+                presence_length: usize,
+                ranks: $pages,
+                ranks_length: usize,
                 first_key: *mut u8,
                 first_key_length: usize,
                 second_key: *mut u8,
@@ -176,9 +212,9 @@ macro_rules! comparing {
     };
 }
 
-/// Declares calls on two lists.
+/// Declares calls on two lists, by how they are lent pages.
 macro_rules! sharing {
-    ($($name:ident),*) => {
+    ($pages:ty: $($name:ident),*) => {
         extern "C" {
             $(pub fn $name(
                 collation: u32,
@@ -190,6 +226,10 @@ macro_rules! sharing {
                 entries_length: usize,
                 pool: *const u32,
                 pool_length: usize,
+                presence: $pages,
+                presence_length: usize,
+                ranks: $pages,
+                ranks_length: usize,
                 store: *mut u8,
                 store_length: usize,
                 partners: *mut u32,
@@ -202,10 +242,15 @@ macro_rules! sharing {
     };
 }
 
-preparing!(mz_prepare, mz_prepare_accepted);
-comparing!(4: mz_equal, mz_equal_accepted, mz_order, mz_order_accepted);
-comparing!(8: mz_substring, mz_substring_accepted);
-sharing!(mz_find_shared, mz_find_shared_accepted);
+preparing!(*mut u64: mz_prepare);
+comparing!(4, *mut u64: mz_equal, mz_order);
+comparing!(8, *mut u64: mz_substring);
+sharing!(*mut u64: mz_find_shared);
+
+preparing!(*const u64: mz_prepare_accepted);
+comparing!(4, *const u64: mz_equal_accepted, mz_order_accepted);
+comparing!(8, *const u64: mz_substring_accepted);
+sharing!(*const u64: mz_find_shared_accepted);
 
 /// Stops the program if the linked library has another interface: the same names may then take other parameters.
 pub fn check_interface() {

@@ -1,5 +1,6 @@
 //! Room for keys. The calls that answer no key still need it: that for two texts is kept between calls, since names come by the
 //! thousand; that for all keys of a list is not.
+use crate::kept::with_kept;
 use crate::{KEY_PER_OCTET_MOST, TEXT_MOST};
 use std::cell::Cell;
 
@@ -14,6 +15,7 @@ pub fn new_store(octets: usize) -> Vec<u8> {
 }
 
 /// Room for the keys of two texts.
+#[derive(Default)]
 pub struct KeyBuffers {
     pub first: Vec<u8>,
     pub second: Vec<u8>,
@@ -38,11 +40,7 @@ thread_local! {
     static BUFFERS: Cell<KeyBuffers> = const { Cell::new(KeyBuffers::NONE) };
 }
 
-/// Does some work with the thread's buffers or, while the thread ends and has none any more, with new ones.
+/// Does some work with the thread's buffers.
 pub fn with_keys<R>(work: impl FnOnce(&mut KeyBuffers) -> R) -> R {
-    let mut keys = BUFFERS.try_with(|kept| kept.replace(KeyBuffers::NONE)).unwrap_or(KeyBuffers::NONE);
-    let result = work(&mut keys);
-    // Nothing is lost if the thread keeps none: the buffers are freed here.
-    let _ = BUFFERS.try_with(|kept| kept.set(keys));
-    result
+    with_kept(&BUFFERS, work)
 }

@@ -105,9 +105,11 @@
 
 mod builder;
 mod ffi;
+mod kept;
 mod keys;
 mod lists;
 mod many;
+mod pages;
 mod reading;
 pub mod records;
 mod refusal;

@@ -220,8 +220,10 @@ impl Table {
     fn find_shared(&self, collation: Collation, first: &[u8], second: &[u8], lent: &mut Lent) -> [u64; 7] {
         let store = lent.store.spare_capacity_mut();
         let mut answer = [0; 7];
-        // SAFETY: the table was accepted, and nobody can have changed it since; the store and the arrays are borrowed alone, so
-        // they overlap nothing. The store needs no octets in it, since the call answers nothing of what was there.
+        let pages = self.pages();
+        // SAFETY: the table was accepted with these pages, and nobody can have changed either since; the store and the arrays are
+        // borrowed alone, so they overlap nothing. The store needs no octets in it, since the call answers nothing of what was
+        // there.
         unsafe {
             ffi::mz_find_shared_accepted(
                 collation as u32,
@@ -233,6 +235,10 @@ impl Table {
                 self.entries().len(),
                 self.pool().as_ptr(),
                 self.pool().len(),
+                pages.presence.as_ptr(),
+                pages.presence.len(),
+                pages.ranks.as_ptr(),
+                pages.ranks.len(),
                 store.as_mut_ptr().cast(),
                 store.len(),
                 lent.partners.as_mut_ptr(),

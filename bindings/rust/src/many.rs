@@ -1,5 +1,6 @@
 //! Many names in one call: their keys, and which of them are equal.
 use crate::keys::new_store;
+use crate::pages::{with_page_room, Pages};
 use crate::{ffi, Collation, ListError, Refusal, RefusalKind, Table};
 
 mod matches;
@@ -215,11 +216,12 @@ impl Table {
     fn keys_of(&self, collation: Collation, texts: &Texts) -> Result<Keys, Refusal> {
         let count = texts.ends.len();
         let mut keys = Keys { octets: new_store(texts.octets.len()), ends: vec![0; count], valid: vec![0; count] };
-        let mut answer = self.prepare_many(collation, texts, &mut keys);
+        let prepare = |keys: &mut Keys| with_page_room(|room| self.prepare_many(collation, texts, room, keys));
+        let mut answer = prepare(&mut keys);
         if answer[0] == RefusalKind::KeyRoom.number() {
-            // The other two slices are never too short, so it is the store, and the detail is the length of all keys together.
+            // The other slices are never too short, so it is the store, and the detail is the length of all keys together.
             keys.octets.reserve_exact(answer[2] as usize);
-            answer = self.prepare_many(collation, texts, &mut keys);
+            answer = prepare(&mut keys);
         }
         Refusal::of_many(&answer)?;
         // SAFETY: the call was not refused, so it has written each octet of the store up to the number that it answers.
@@ -228,12 +230,13 @@ impl Table {
         Ok(keys)
     }
 
-    /// Makes the call on many texts over this table, and answers its row.
-    fn prepare_many(&self, collation: Collation, texts: &Texts, keys: &mut Keys) -> [u64; 4] {
+    /// Makes the call on many texts over this table, and answers its row. It checks the table, and fills pages: not this table's,
+    /// which other threads may be reading.
+    fn prepare_many(&self, collation: Collation, texts: &Texts, room: &mut Pages, keys: &mut Keys) -> [u64; 4] {
         let store = keys.octets.spare_capacity_mut();
         let mut answer = [0; 4];
-        // SAFETY: the pointers and lengths are those of live slices; the three that are written are borrowed alone, so they
-        // overlap nothing. The store needs no octets in it, since the call answers nothing of what was there.
+        // SAFETY: the pointers and lengths are those of live slices; those that are written are borrowed alone, so they overlap
+        // nothing. The store needs no octets in it, since the call answers nothing of what was there.
         unsafe {
             ffi::mz_prepare_many(
                 collation as u32,
@@ -245,6 +248,10 @@ impl Table {
                 self.entries().len(),
                 self.pool().as_ptr(),
                 self.pool().len(),
+                room.presence.as_mut_ptr(),
+                room.presence.len(),
+                room.ranks.as_mut_ptr(),
+                room.ranks.len(),
                 store.as_mut_ptr().cast(),
                 store.len(),
                 keys.ends.as_mut_ptr(),

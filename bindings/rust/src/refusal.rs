@@ -185,6 +185,7 @@ impl fmt::Display for Refusal {
             NoTab => write!(f, "the line has no tab"),
             NameCount if self.given == Given::Many => write!(f, "there are over 4294967295 texts"),
             NameCount => write!(f, "the {} {}", self.list(), self.list_fault()),
+            Pages => write!(f, "a page slice has under 17408 numbers"),
             RecordLength | RecordKind | RecordBody if self.place > 0 => write!(f, "the {} {}", self.list(), self.list_fault()),
             RecordLength => write!(f, "fewer octets are left than the record's length takes or says, or that length is below 2"),
             RecordKind => write!(f, "the record's kind is not 1 or 2"),

@@ -96,6 +96,8 @@ refusal_kinds! {
     RecordBody = 13, "record body";
     /// A list has over 1,024 names, or a call on many texts has over 4,294,967,295.
     NameCount = 14, "name count";
+    /// A page slice is under 17,408 numbers long. This crate makes the pages itself, so no call of it answers this.
+    Pages = 15, "pages too short";
     /// A data line is over 512 octets.
     LineTooLong = 20, "line too long";
     /// A data line has not exactly 14 semicolons.

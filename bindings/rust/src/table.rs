@@ -1,20 +1,24 @@
 //! A checked table, and the calls that compare texts over it.
 use crate::ffi;
 use crate::keys::with_keys;
+use crate::pages::Pages;
 use crate::{Collation, Refusal};
 use std::borrow::Cow;
 use std::cmp::Ordering;
 use std::fmt;
 use std::ops::Range;
+use std::sync::{Arc, OnceLock};
 
 /// The numbers of an entry.
 const ENTRY_WIDTH: usize = 4;
 
-/// A mapping table that was checked and accepted. It owns its two slices, or borrows them for ever, so that nobody can change
-/// them: this is what the calls of include/mundeziwa_accepted.h ask for, and the crate makes them over such a table alone.
+/// A mapping table that was checked and accepted. It owns its two slices, or borrows them for ever, and it has the pages by which
+/// entries are found (272 KiB, which its clones share), so that nobody can change any of these: this is what the calls of
+/// include/mundeziwa_accepted.h ask for, and the crate makes them over such a table alone.
 ///
 /// A struct may hold it, and any number of threads may use it at once. The comparing calls keep two key buffers for each
-/// thread, which grow to 128 times the longest text seen (1 MiB at most for both) and are freed with the thread.
+/// thread, which grow to 128 times the longest text seen (1 MiB at most for both); the calls on many texts, which check the table
+/// each time, keep room for pages of their own. Both are freed with the thread.
 ///
 /// ```
 /// use mundeziwa::{Collation, Refusal, Table};
@@ -45,6 +49,8 @@ const ENTRY_WIDTH: usize = 4;
 pub struct Table {
     entries: Cow<'static, [u32]>,
     pool: Cow<'static, [u32]>,
+    /// Those of the entries, as the check left them; only read since.
+    pages: Arc<Pages>,
 }
 
 /// A prepared text.
@@ -72,7 +78,7 @@ impl Table {
     /// Checks a table, and keeps it if it is accepted: four numbers an entry (code point, titlecase, start in the pool, count).
     ///
     /// It takes vectors, which it then owns, and slices that live as long as the program, which it borrows; other slices are
-    /// first copied with `to_vec`, which costs little beside the check.
+    /// first copied with `to_vec`, which costs little beside the check. The pages are made here, and are always the table's own.
     ///
     /// Refusals 3 to 7.
     ///
@@ -95,11 +101,9 @@ impl Table {
     pub fn new(entries: impl Into<Cow<'static, [u32]>>, pool: impl Into<Cow<'static, [u32]>>) -> Result<Table, Refusal> {
         ffi::check_interface();
         let (entries, pool) = (entries.into(), pool.into());
-        let mut answer = [0; 3];
-        // SAFETY: the pointers and lengths are those of live slices, and the answer row has three numbers.
-        unsafe { ffi::mz_check_table(entries.as_ptr(), entries.len(), pool.as_ptr(), pool.len(), &mut answer) };
+        let (answer, pages) = Pages::check(&entries, &pool);
         Refusal::of_table(&answer, entries.len() / ENTRY_WIDTH)?;
-        Ok(Table { entries, pool })
+        Ok(Table { entries, pool, pages: Arc::new(pages) })
     }
 
     /// The table without an entry, in which every code point but the Hangul syllables maps to itself. It serves
@@ -114,9 +118,9 @@ impl Table {
     /// # Ok::<(), mundeziwa::Refusal>(())
     /// ```
     pub fn empty() -> Table {
-        ffi::check_interface();
+        static EMPTY: OnceLock<Table> = OnceLock::new();
         // Two empty slices are always accepted: a syllable unfolds into its jamo at one level.
-        Table { entries: Cow::Borrowed(&[]), pool: Cow::Borrowed(&[]) }
+        EMPTY.get_or_init(|| Table::new(&[], &[]).expect("two empty slices are accepted")).clone()
     }
 
     /// The entries, four numbers each: with the pool, what [`Table::new`] takes.
@@ -139,6 +143,11 @@ impl Table {
     /// ```
     pub fn pool(&self) -> &[u32] {
         &self.pool
+    }
+
+    /// The pages, for calls that read them.
+    pub(crate) fn pages(&self) -> &Pages {
+        &self.pages
     }
 
     /// The key of a text: two texts are equal exactly when their keys are, so records that are filed under it are joined by
@@ -185,8 +194,8 @@ impl Table {
     {
         let text = text.as_ref();
         let mut answer = [0; 7];
-        // SAFETY: the table was accepted, and nobody can have changed it since; the buffer overlaps no other argument, since it
-        // is borrowed alone.
+        // SAFETY: the table was accepted with these pages, and nobody can have changed either since; the buffer overlaps no other
+        // argument, since it is borrowed alone.
         unsafe {
             ffi::mz_prepare_accepted(
                 collation as u32,
@@ -196,6 +205,10 @@ impl Table {
                 self.entries.len(),
                 self.pool.as_ptr(),
                 self.pool.len(),
+                self.pages.presence.as_ptr(),
+                self.pages.presence.len(),
+                self.pages.ranks.as_ptr(),
+                self.pages.ranks.len(),
                 buffer.as_mut_ptr(),
                 buffer.len(),
                 &mut answer,
@@ -274,7 +287,7 @@ impl Table {
     /// Makes a comparing call over this table, and answers its row if it was not refused.
     fn compare<const N: usize>(
         &self,
-        call: ffi::Comparing<N>,
+        call: ffi::Comparing<N, *const u64>,
         collation: Collation,
         first: &[u8],
         second: &[u8],
@@ -282,8 +295,8 @@ impl Table {
         let mut answer = [0; N];
         with_keys(|keys| {
             keys.make_room(first, second);
-            // SAFETY: the table was accepted, and nobody can have changed it since; the keys overlap no other argument, since
-            // they are this module's own.
+            // SAFETY: the table was accepted with these pages, and nobody can have changed either since; the keys overlap no
+            // other argument, since they are this module's own.
             unsafe {
                 call(
                     collation as u32,
@@ -295,6 +308,10 @@ impl Table {
                     self.entries.len(),
                     self.pool.as_ptr(),
                     self.pool.len(),
+                    self.pages.presence.as_ptr(),
+                    self.pages.presence.len(),
+                    self.pages.ranks.as_ptr(),
+                    self.pages.ranks.len(),
                     keys.first.as_mut_ptr(),
                     keys.first.len(),
                     keys.second.as_mut_ptr(),

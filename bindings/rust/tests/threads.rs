@@ -23,7 +23,29 @@ fn a_table_may_be_shared_and_sent() {
     threads.into_iter().for_each(|thread| thread.join().unwrap());
 }
 
-/// Makes every comparing call when it is dropped, and tells what they answered.
+#[test]
+fn threads_may_make_every_call_at_once_over_tables_that_they_share() {
+    // é has one key over the one table and another over the other, so that pages of the wrong table, or half filled, are seen.
+    let other = Table::new(&[0x65, 0x78, 0, 0, 0xE9, 0x79, 0, 1], &[0x7A]).unwrap();
+    let tables = Arc::new([(accented(), b"E\xCC\x81".as_slice()), (other, b"y")]);
+    let threads: Vec<_> = (0..4)
+        .map(|first| {
+            let tables = Arc::clone(&tables);
+            thread::spawn(move || {
+                for round in first..first + 200 {
+                    let (table, key) = &tables[round % 2];
+                    assert!(table.keys(UNICODE, ["é", "E", "é"]).unwrap().iter().eq([key, b"E".as_slice(), key]));
+                    assert!(table.shared(UNICODE, ["E", "é"], ["é", "é"]).unwrap().matches().eq([(1, 0)]));
+                    assert_eq!(table.key(UNICODE, "é").unwrap(), *key);
+                    assert_eq!(table.equal(UNICODE, "é", key), Ok(true));
+                }
+            })
+        })
+        .collect();
+    threads.into_iter().for_each(|thread| thread.join().unwrap());
+}
+
+/// Makes calls that keep something for the thread when it is dropped, and tells what they answered.
 struct Late {
     table: Table,
     answers: Sender<bool>,
@@ -34,7 +56,9 @@ impl Drop for Late {
         let equal = self.table.equal(UNICODE, "é", "É").unwrap();
         let hit = self.table.find(UNICODE, "\u{301}", "é").unwrap().unwrap();
         let key = self.table.key(UNICODE, "é").unwrap();
-        self.answers.send(equal && hit.text == (0..2) && key == b"E\xCC\x81").unwrap();
+        let keys = self.table.keys(UNICODE, ["é", "E"]).unwrap();
+        let same = keys.iter().eq([key.as_slice(), b"E"]);
+        self.answers.send(equal && hit.text == (0..2) && key == b"E\xCC\x81" && same).unwrap();
     }
 }
 
@@ -51,6 +75,7 @@ fn calls_from_the_destructor_of_a_thread_local_are_answered() {
         let late = || Late { table: accented(), answers: answers.clone() };
         EARLIER.set(Some(late()));
         assert_eq!(accented().equal(UNICODE, "é", "É"), Ok(true));
+        assert_eq!(accented().keys(UNICODE, ["é"]).unwrap().get(0), Some(b"E\xCC\x81".as_slice()));
         LATER.set(Some(late()));
     });
     thread.join().unwrap();

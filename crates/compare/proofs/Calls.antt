@@ -16,6 +16,7 @@ use Rattle.table.specs.Table.{Table}
 use Rattle.keys.specs.Keys.{PreparedText}
 use Rattle.keys.specs.Summaries.{shownAt}
 use Rattle.keys.specs.declared.Summary.{Summary}
+use Rattle.pages.specs.Pages.{Pages}
 use Rattle.prepare.specs.Calls.{Lent, Call, call, preparedIn, callRefusal, answerOf, Answers, Called}
 use Rattle.prepare.specs.Preparing.{preparedValues, pairOutcome}
 use Rattle.prepare.specs.declared.PreparedPair.{PreparedPair}
@@ -35,14 +36,14 @@ orderOutcome-orderedBy Ordering·eq = refl
 orderOutcome-orderedBy Ordering·gt = refl
 
 -- two texts were prepared, and what they show was ordered
-pub orders-shown : {k : Collation} {t : Table} {l m : Lent} {x : Option Refusal} {p : PreparedPair} {sAfter tAfter : List ℕ}
+pub orders-shown : {k : Collation} {t : Table} {g : Pages} {l m : Lent} {x : Option Refusal} {p : PreparedPair} {sAfter tAfter : List ℕ}
     {one two : Summary} {r : Ordered}
-    → Answers pairOutcome preparedValues x (call (some k) t (l ∷ m ∷ [])) p (sAfter ∷ tAfter ∷ [])
+    → Answers pairOutcome preparedValues x (call (some k) t g (l ∷ m ∷ [])) p (sAfter ∷ tAfter ∷ [])
     → p ≡ Both one two
     → r
     ≡ orderedBy (orderOf (shownAt (one .place) (one .«key_length») (l .text) sAfter)
     (shownAt (two .place) (two .«key_length») (m .text) tAfter))
-    → Answers orderOutcome orderValues x (call (some k) t (l ∷ m ∷ [])) r (sAfter ∷ tAfter ∷ [])
+    → Answers orderOutcome orderValues x (call (some k) t g (l ∷ m ∷ [])) r (sAfter ∷ tAfter ∷ [])
 orders-shown h e told =
     let shown = shown-both h e in
     record {

@@ -18,6 +18,7 @@ use Rattle.table.specs.Table.{Table, mappingOf}
 use Rattle.decompose.specs.TableCheck.{tableRefusal}
 use Rattle.keys.specs.Keys.{PreparedText, keyOf}
 use Rattle.keys.proofs.Validity.{valid-invalid-differ}
+use Rattle.pages.specs.Pages.{Pages}
 use Rattle.prepare.specs.Calls.{Lent, call, Called}
 use Rattle.prepare.proofs.CallRefusals.{unrefused-table}
 use Rattle.compare.specs.Compare.{orderOutcome, equalityOutcome, orderValues, equalityValues, orderedBy, equalityBy}
@@ -132,17 +133,17 @@ same-validity t x y ok key = go (there (characters x)) (there (characters y)) re
     go false true e f = absurd (valid-invalid-differ t ok y x f e (sym key))
     go false false e f = e ∙ sym f
 
-module _ {t : Table} {l m : Lent} {after : List (List ℕ)} where
+module _ {t : Table} {g : Pages} {l m : Lent} {after : List (List ℕ)} where
   -- where just one of two texts is valid, `order` does not say Equal
-  pub answers-valid : Called orderOutcome orderValues (call (some UnicodeCasemap) t (l ∷ m ∷ [])) Equal after
+  pub answers-valid : Called orderOutcome orderValues (call (some UnicodeCasemap) t g (l ∷ m ∷ [])) Equal after
       → there (characters (l .text)) ≡ there (characters (m .text))
   answers-valid h =
-      let accepted = unrefused-table (call (some UnicodeCasemap) t (l ∷ m ∷ [])) (given-unrefused h tt) in
+      let accepted = unrefused-table (call (some UnicodeCasemap) t g (l ∷ m ∷ [])) (given-unrefused h tt) in
       same-validity t (l .text) (m .text) accepted (answers-tie (says h tt) .0 refl)
 
   -- nor does `equal` say Match
-  pub matches-valid : Called equalityOutcome equalityValues (call (some UnicodeCasemap) t (l ∷ m ∷ [])) Match after
+  pub matches-valid : Called equalityOutcome equalityValues (call (some UnicodeCasemap) t g (l ∷ m ∷ [])) Match after
       → there (characters (l .text)) ≡ there (characters (m .text))
   matches-valid h =
-      let accepted = unrefused-table (call (some UnicodeCasemap) t (l ∷ m ∷ [])) (given-unrefused h tt) in
+      let accepted = unrefused-table (call (some UnicodeCasemap) t g (l ∷ m ∷ [])) (given-unrefused h tt) in
       same-validity t (l .text) (m .text) accepted (matches-tie (says h tt) .0 refl)

@@ -11,6 +11,7 @@ use Rattle.terms.specs.declared.Collation.{Collation}
 use Rattle.octets.proofs.Order.{flip}
 use Rattle.table.specs.Table.{Table, mappingOf}
 use Rattle.keys.specs.Keys.{PreparedText, prepared}
+use Rattle.pages.specs.Pages.{Pages}
 use Rattle.prepare.specs.Calls.{Lent, Call, call, preparedIn, callRefusal, Called}
 use Rattle.prepare.proofs.Answering.{answered-gives}
 use Rattle.compare.specs.Compare.{equalityOutcome, compared, comparedValues, orderedBy, equalityBy, Says, flipped}
@@ -32,12 +33,12 @@ module _ {R : Type 0} {outcome : R → Outcome} {number : List ℕ → List ℕ 
   given-unrefused h given = let v = valuesGiven (outcome r) given in answered-gives h (v .0) (v .1) .0
 
   -- from the contract
-  pub says : {k : Collation} {t : Table} {l m : Lent} {after : List (List ℕ)}
-      → Called outcome (comparedValues number) (call (some k) t (l ∷ m ∷ [])) r after
+  pub says : {k : Collation} {t : Table} {g : Pages} {l m : Lent} {after : List (List ℕ)}
+      → Called outcome (comparedValues number) (call (some k) t g (l ∷ m ∷ [])) r after
       → Given (outcome r)
       → Says outcome number (prepared k (mappingOf t) (l .text)) (prepared k (mappingOf t) (m .text)) r
-  says {k} {t} {l} {m} {after} h given =
-      record { call = call (some k) t (l ∷ m ∷ []); after = after; called = h; texts = refl; given = given }
+  says {k} {t} {g} {l} {m} {after} h given =
+      record { call = call (some k) t g (l ∷ m ∷ []); after = after; called = h; texts = refl; given = given }
 
   -- what it tells
   pub says-number : {p q : PreparedText} → Says outcome number p q r → outcome r ≡ gives (number (p .key) (q .key) ∷ [])

@@ -1,6 +1,6 @@
 // Equality and order of two texts under a collation (document 01, "The collations").
 //
-// `equal` and `order` take any arguments at all; the `_accepted` ones ask for a table that is accepted already.
+// `equal` and `order` take any arguments at all; the `_accepted` ones ask for a table that is accepted already and its pages.
 use keys::Summary;
 use octets::Comparison;
 use prepare::CallCheck;
@@ -9,16 +9,17 @@ use terms::Collation;
 use terms::Refusal;
 ghost use mathlib.Core.Path.{_≡_};
 ghost use mathlib.Core.List.{[], _∷_};
-ghost use mathlib.Core.Option.{none, some};
+ghost use mathlib.Core.Option.{some};
 ghost use Prim.Native.Nat.{_≤_};
 ghost use lib.ListN.{length};
 ghost use Rattle.terms.specs.Collations.{collationOf};
 ghost use Rattle.terms.specs.Refusals.{textMost};
 ghost use Rattle.octets.specs.Order.{orderOf};
 ghost use Rattle.table.specs.Table.{table};
-ghost use Rattle.keys.specs.Keys.{tableUnder};
+ghost use Rattle.pages.specs.Pages.{pages};
+ghost use Rattle.keys.specs.Keys.{UsableUnder};
 ghost use Rattle.keys.specs.Summaries.{shownAt};
-ghost use Rattle.prepare.specs.Calls.{tableCheck, twoCall, Called, CalledReady};
+ghost use Rattle.prepare.specs.Calls.{twoCall, Called, CalledPaging, CalledReady, UsableBy};
 ghost use Rattle.compare.specs.Compare.{orderOutcome, equalityOutcome, orderValues, equalityValues, orderedBy, equalityBy};
 
 // Whether two texts are equal under a collation.
@@ -43,12 +44,15 @@ pub fn equal(
     second: &[u8],
     entries: &[u32],
     pool: &[u32],
+    presence: &mut [u64],
+    ranks: &mut [u64],
     first_key: &mut [u8],
     second_key: &mut [u8],
 ) -> Equality
-    ensures { λ r. ⌜ Called equalityOutcome equalityValues (twoCall (collationOf collation) (now (first .entry))
-        (now (second .entry)) (now (entries .entry)) (now (pool .entry)) (now («first_key» .entry))
-        (now («second_key» .entry))) r (now («first_key» .exit) ∷ now («second_key» .exit) ∷ []) ⌝ }
+    ensures { λ r. ⌜ CalledPaging equalityOutcome equalityValues (twoCall (collationOf collation) (now (first .entry))
+        (now (second .entry)) (now (entries .entry)) (now (pool .entry)) (now (presence .entry)) (now (ranks .entry)) (now («first_key» .entry))
+        (now («second_key» .entry))) r (now («first_key» .exit) ∷ now («second_key» .exit) ∷ [])
+        (pages (now (presence .exit)) (now (ranks .exit))) ⌝ }
 {
     let ordered = order(
         collation,
@@ -56,25 +60,29 @@ pub fn equal(
         second,
         entries,
         pool,
+        presence,
+        ranks,
         first_key,
         second_key,
     );
     equality_of(ordered)
 }
 
-// As `equal`, over a table that is accepted already.
+// As `equal`, over a table that is accepted already, with its pages.
 pub fn equal_accepted(
     collation: u32,
     first: &[u8],
     second: &[u8],
     entries: &[u32],
     pool: &[u32],
+    presence: &[u64],
+    ranks: &[u64],
     first_key: &mut [u8],
     second_key: &mut [u8],
 ) -> Equality
-    requires { ⌜ tableCheck (collationOf collation) (table (now entries) (now pool)) ≡ none ⌝ }
+    requires { ⌜ UsableBy (collationOf collation) (table (now entries) (now pool)) (pages (now presence) (now ranks)) ⌝ }
     ensures { λ r. ⌜ Called equalityOutcome equalityValues (twoCall (collationOf collation) (now (first .entry))
-        (now (second .entry)) (now (entries .entry)) (now (pool .entry)) (now («first_key» .entry))
+        (now (second .entry)) (now (entries .entry)) (now (pool .entry)) (now (presence .entry)) (now (ranks .entry)) (now («first_key» .entry))
         (now («second_key» .entry))) r (now («first_key» .exit) ∷ now («second_key» .exit) ∷ []) ⌝ }
 {
     let ordered = order_accepted(
@@ -83,6 +91,8 @@ pub fn equal_accepted(
         second,
         entries,
         pool,
+        presence,
+        ranks,
         first_key,
         second_key,
     );
@@ -96,14 +106,25 @@ pub fn order(
     second: &[u8],
     entries: &[u32],
     pool: &[u32],
+    presence: &mut [u64],
+    ranks: &mut [u64],
     first_key: &mut [u8],
     second_key: &mut [u8],
 ) -> Ordered
-    ensures { λ r. ⌜ Called orderOutcome orderValues (twoCall (collationOf collation) (now (first .entry))
-        (now (second .entry)) (now (entries .entry)) (now (pool .entry)) (now («first_key» .entry))
-        (now («second_key» .entry))) r (now («first_key» .exit) ∷ now («second_key» .exit) ∷ []) ⌝ }
+    ensures { λ r. ⌜ CalledPaging orderOutcome orderValues (twoCall (collationOf collation) (now (first .entry))
+        (now (second .entry)) (now (entries .entry)) (now (pool .entry)) (now (presence .entry)) (now (ranks .entry)) (now («first_key» .entry))
+        (now («second_key» .entry))) r (now («first_key» .exit) ∷ now («second_key» .exit) ∷ [])
+        (pages (now (presence .exit)) (now (ranks .exit))) ⌝ }
 {
-    let checked = prepare::check_call(collation, first.len(), second.len(), entries, pool);
+    let checked = prepare::check_call(
+        collation,
+        first.len(),
+        second.len(),
+        entries,
+        pool,
+        presence,
+        ranks,
+    );
     match checked {
         CallCheck::Passed(_) => order_accepted(
             collation,
@@ -111,6 +132,8 @@ pub fn order(
             second,
             entries,
             pool,
+            presence,
+            ranks,
             first_key,
             second_key,
         ),
@@ -118,19 +141,21 @@ pub fn order(
     }
 }
 
-// As `order`, over a table that is accepted already.
+// As `order`, over a table that is accepted already, with its pages.
 pub fn order_accepted(
     collation: u32,
     first: &[u8],
     second: &[u8],
     entries: &[u32],
     pool: &[u32],
+    presence: &[u64],
+    ranks: &[u64],
     first_key: &mut [u8],
     second_key: &mut [u8],
 ) -> Ordered
-    requires { ⌜ tableCheck (collationOf collation) (table (now entries) (now pool)) ≡ none ⌝ }
+    requires { ⌜ UsableBy (collationOf collation) (table (now entries) (now pool)) (pages (now presence) (now ranks)) ⌝ }
     ensures { λ r. ⌜ Called orderOutcome orderValues (twoCall (collationOf collation) (now (first .entry))
-        (now (second .entry)) (now (entries .entry)) (now (pool .entry)) (now («first_key» .entry))
+        (now (second .entry)) (now (entries .entry)) (now (pool .entry)) (now (presence .entry)) (now (ranks .entry)) (now («first_key» .entry))
         (now («second_key» .entry))) r (now («first_key» .exit) ∷ now («second_key» .exit) ∷ []) ⌝ }
 {
     let texts = prepare::check_texts(collation, first.len(), second.len());
@@ -141,6 +166,8 @@ pub fn order_accepted(
             second,
             entries,
             pool,
+            presence,
+            ranks,
             first_key,
             second_key,
         ),
@@ -148,21 +175,23 @@ pub fn order_accepted(
     }
 }
 
-// Orders two texts where 1 to 7 were passed.
+// Orders two texts where 1 to 7 and 15 were passed.
 fn order_ready(
     collation: Collation,
     first: &[u8],
     second: &[u8],
     entries: &[u32],
     pool: &[u32],
+    presence: &[u64],
+    ranks: &[u64],
     first_key: &mut [u8],
     second_key: &mut [u8],
 ) -> Ordered
     requires { ⌜ length (now first) ≤ textMost ⌝ }
     requires { ⌜ length (now second) ≤ textMost ⌝ }
-    requires { ⌜ tableUnder collation (table (now entries) (now pool)) ≡ none ⌝ }
+    requires { ⌜ UsableUnder collation (table (now entries) (now pool)) (pages (now presence) (now ranks)) ⌝ }
     ensures { λ r. ⌜ CalledReady orderOutcome orderValues (twoCall (some collation) (now (first .entry)) (now (second .entry))
-        (now (entries .entry)) (now (pool .entry)) (now («first_key» .entry)) (now («second_key» .entry))) r (now
+        (now (entries .entry)) (now (pool .entry)) (now (presence .entry)) (now (ranks .entry)) (now («first_key» .entry)) (now («second_key» .entry))) r (now
         («first_key» .exit) ∷ now («second_key» .exit) ∷ []) ⌝ }
 {
     let pair = prepare::fill_two(
@@ -171,6 +200,8 @@ fn order_ready(
         second,
         entries,
         pool,
+        presence,
+        ranks,
         first_key,
         second_key,
     );

@@ -14,6 +14,8 @@ use Rattle.hangul.specs.Hangul.{sBase, sCount, syllable}
 use Rattle.table.specs.Mapping.{Mapping}
 use Rattle.table.specs.Layout.{entryCount, codeAt}
 use Rattle.table.specs.Table.{Table, refusedAt, formRefusal, mappingOf}
+use Rattle.pages.specs.Pages.{Pages}
+use Rattle.pages.specs.Promises.{Paged}
 use Rattle.decompose.specs.Levels.{Level, Unfolds, within, full}
 
 -- a code point unfolds within 8 levels into at most 32 code points
@@ -40,6 +42,11 @@ tableRefusal t = first (formRefusal t ∷ refusedAt 7 (levelFault t) ∷ [])
 -- what checking a table by itself answers
 abbrev pub tableAnswer : Table → Outcome
 tableAnswer t = answer (tableRefusal t) []
+
+-- a table was accepted, and two slices hold its pages: what a call over it may go on with
+pub record Usable (t : Table) (p : Pages) : Type 0 where
+  pub accepted : tableRefusal t ≡ none
+  pub paged : Paged (t .entries) p
 
 -- ---- the same in demand 3's words
 

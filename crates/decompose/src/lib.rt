@@ -4,7 +4,7 @@
 // `check_table` takes any two slices. Its work is bounded on any table: an entry's code point is unfolded until it has taken 32
 // code points or 8 levels, and every code point that is looked up either takes one of the 32 or is split into ones that do;
 // so on each of the levels 0 to 8 at most 33 are looked up, some 300 in all. So are 67 jamo, which decide for all syllables.
-// The functions on one expansion ask for an accepted table.
+// The functions on one expansion ask for an accepted table and its pages.
 mod depth;
 
 use table::Place;
@@ -13,17 +13,18 @@ use terms::Check;
 use terms::CodePoint;
 ghost use mathlib.Core.Path.{_≡_};
 ghost use mathlib.Core.Bool.{true};
-ghost use mathlib.Core.Option.{none};
 ghost use Prim.Native.Nat.{_≤_};
 ghost use lib.ListN.{length};
 ghost use Rattle.terms.specs.CodePoints.{scalar};
 ghost use Rattle.terms.specs.Refusals.{checkOutcome};
 ghost use Rattle.utf8.specs.Utf8.{encodes};
-ghost use Rattle.table.specs.Table.{table, formRefusal, entryOf, titleOf, entryParts, mappingOf};
+ghost use Rattle.table.specs.Table.{table, entryOf, titleOf, entryParts, mappingOf};
 ghost use Rattle.table.specs.Promises.{placeFound};
+ghost use Rattle.pages.specs.Pages.{pages};
+ghost use Rattle.pages.specs.Promises.{Findable};
 ghost use Rattle.decompose.specs.Levels.{full};
 ghost use Rattle.decompose.specs.Steps.{expanded};
-ghost use Rattle.decompose.specs.TableCheck.{tableRefusal, tableAnswer};
+ghost use Rattle.decompose.specs.TableCheck.{tableAnswer, Usable};
 ghost use Rattle.decompose.specs.Promises.{decomposing, Listed, Bounded, FullCounted, FullFilled, ExpansionCounted};
 ghost use Rattle.decompose.specs.Promises.{ExpansionFilled};
 
@@ -52,18 +53,33 @@ pub fn check_table(entries: &[u32], pool: &[u32]) -> Check
 }
 
 // The octets of a code point's expansion, and the lookups for it.
-pub fn size_expansion(c: CodePoint, entries: &[u32], pool: &[u32]) -> Unfolded
-    requires { ⌜ tableRefusal (table (now entries) (now pool)) ≡ none ⌝ }
+pub fn size_expansion(
+    c: CodePoint,
+    entries: &[u32],
+    pool: &[u32],
+    presence: &[u64],
+    ranks: &[u64],
+) -> Unfolded
+    requires { ⌜ Usable (table (now entries) (now pool)) (pages (now presence) (now ranks)) ⌝ }
+    requires { ⌜ scalar (c .0) ≡ true ⌝ }
     ensures { λ r. ⌜ ExpansionCounted (mappingOf (table (now (entries .entry)) (now (pool .entry)))) (c .0) r ⌝ }
 {
-    let place = table::find_entry(entries, c);
+    let place = pages::find_entry(entries, pool, presence, ranks, c);
     let title = title_of(c, place, entries);
-    let parts = title_parts(c, place, entries, pool);
+    let parts = title_parts(c, place, entries, pool, presence, ranks);
     if !decomposes(title, parts) {
         let octets = utf8::octet_count(title);
         return Unfolded { octets, asks: 2 };
     }
-    let unfolded = size_unfolded(terms::LEVELS_MOST, title, parts, entries, pool);
+    let unfolded = size_unfolded(
+        terms::LEVELS_MOST,
+        title,
+        parts,
+        entries,
+        pool,
+        presence,
+        ranks,
+    );
     Unfolded {
         octets: unfolded.octets,
         asks: unfolded.asks + 1,
@@ -71,21 +87,37 @@ pub fn size_expansion(c: CodePoint, entries: &[u32], pool: &[u32]) -> Unfolded
 }
 
 // Writes a code point's expansion at the start of a slice that has room for it.
-pub fn write_expansion(c: CodePoint, entries: &[u32], pool: &[u32], out: &mut [u8]) -> Unfolded
-    requires { ⌜ tableRefusal (table (now entries) (now pool)) ≡ none ⌝ }
+pub fn write_expansion(
+    c: CodePoint,
+    entries: &[u32],
+    pool: &[u32],
+    presence: &[u64],
+    ranks: &[u64],
+    out: &mut [u8],
+) -> Unfolded
+    requires { ⌜ Usable (table (now entries) (now pool)) (pages (now presence) (now ranks)) ⌝ }
     requires { ⌜ scalar (c .0) ≡ true ⌝ }
     requires { ⌜ length (expanded (mappingOf (table (now entries) (now pool))) (c .0)) ≤ length (now out) ⌝ }
     ensures { λ r. ⌜ ExpansionFilled (mappingOf (table (now (entries .entry)) (now (pool .entry)))) (c .0)
         (now (out .entry)) r (now (out .exit)) ⌝ }
 {
-    let place = table::find_entry(entries, c);
+    let place = pages::find_entry(entries, pool, presence, ranks, c);
     let title = title_of(c, place, entries);
-    let parts = title_parts(c, place, entries, pool);
+    let parts = title_parts(c, place, entries, pool, presence, ranks);
     if !decomposes(title, parts) {
         let octets = utf8::write_character(title, out);
         return Unfolded { octets, asks: 2 };
     }
-    let unfolded = write_unfolded(terms::LEVELS_MOST, title, parts, entries, pool, out);
+    let unfolded = write_unfolded(
+        terms::LEVELS_MOST,
+        title,
+        parts,
+        entries,
+        pool,
+        presence,
+        ranks,
+        out,
+    );
     Unfolded {
         octets: unfolded.octets,
         asks: unfolded.asks + 1,
@@ -114,8 +146,15 @@ fn title_of(c: CodePoint, place: Place, entries: &[u32]) -> CodePoint
 }
 
 // What the entries say of that titlecase: what the code point's own says, if they are the same.
-fn title_parts<'a>(c: CodePoint, place: Place, entries: &[u32], pool: &'a [u32]) -> &'a [u32]
-    requires { ⌜ formRefusal (table (now entries) (now pool)) ≡ none ⌝ }
+fn title_parts<'a>(
+    c: CodePoint,
+    place: Place,
+    entries: &[u32],
+    pool: &'a [u32],
+    presence: &[u64],
+    ranks: &[u64],
+) -> &'a [u32]
+    requires { ⌜ Findable (table (now entries) (now pool)) (pages (now presence) (now ranks)) ⌝ }
     requires { ⌜ placeFound place ≡ entryOf (now entries) (c .0) ⌝ }
     ensures { λ r. ⌜ now r ≡ entryParts (table (now (entries .entry)) (now (pool .entry)))
         (titleOf (now (entries .entry)) (c .0)) ⌝ }
@@ -127,7 +166,7 @@ fn title_parts<'a>(c: CodePoint, place: Place, entries: &[u32], pool: &'a [u32])
     if title.0 == c.0 {
         return table::parts_at(entries, pool, i);
     }
-    table::entry_parts(entries, pool, title)
+    pages::entry_parts(entries, pool, presence, ranks, title)
 }
 
 // The octets of the full decomposition of a code point of which the entries say these parts, or none of a syllable, and the asks
@@ -138,8 +177,10 @@ fn size_unfolded(
     parts: &[u32],
     entries: &[u32],
     pool: &[u32],
+    presence: &[u64],
+    ranks: &[u64],
 ) -> Unfolded
-    requires { ⌜ formRefusal (table (now entries) (now pool)) ≡ none ⌝ }
+    requires { ⌜ Findable (table (now entries) (now pool)) (pages (now presence) (now ranks)) ⌝ }
     requires { ⌜ Listed (mappingOf (table (now entries) (now pool))) (c .0) (now parts) ⌝ }
     requires { ⌜ Bounded (mappingOf (table (now entries) (now pool))) «levels_left» (c .0) ⌝ }
     ensures { λ r. ⌜ FullCounted (mappingOf (table (now (entries .entry)) (now (pool .entry)))) «levels_left» (c .0) r ⌝ }
@@ -147,20 +188,20 @@ fn size_unfolded(
     if parts.len() == 0 {
         let jamo = hangul::jamo_of(c);
         let by_rule = hangul::parts_among(c, &jamo);
-        return size_unfolded(levels_left, c, by_rule, entries, pool);
+        return size_unfolded(levels_left, c, by_rule, entries, pool, presence, ranks);
     }
     let mut octets = 0;
     let mut asked: u64 = 1;
     let mut i = 0;
     while i < parts.len() {
         let part = CodePoint(parts[i]);
-        let inner = table::entry_parts(entries, pool, part);
+        let inner = pages::entry_parts(entries, pool, presence, ranks, part);
         // Most parts are whole, and a call costs more than counting one.
         if !decomposes(part, inner) {
             octets += utf8::octet_count(part);
             asked += 1;
         } else {
-            let sized = size_unfolded(levels_left - 1, part, inner, entries, pool);
+            let sized = size_unfolded(levels_left - 1, part, inner, entries, pool, presence, ranks);
             octets += sized.octets;
             asked += sized.asks;
         }
@@ -179,9 +220,11 @@ fn write_unfolded(
     parts: &[u32],
     entries: &[u32],
     pool: &[u32],
+    presence: &[u64],
+    ranks: &[u64],
     out: &mut [u8],
 ) -> Unfolded
-    requires { ⌜ formRefusal (table (now entries) (now pool)) ≡ none ⌝ }
+    requires { ⌜ Findable (table (now entries) (now pool)) (pages (now presence) (now ranks)) ⌝ }
     requires { ⌜ Listed (mappingOf (table (now entries) (now pool))) (c .0) (now parts) ⌝ }
     requires { ⌜ scalar (c .0) ≡ true ⌝ }
     requires { ⌜ Bounded (mappingOf (table (now entries) (now pool))) «levels_left» (c .0) ⌝ }
@@ -192,14 +235,14 @@ fn write_unfolded(
     if parts.len() == 0 {
         let jamo = hangul::jamo_of(c);
         let by_rule = hangul::parts_among(c, &jamo);
-        return write_unfolded(levels_left, c, by_rule, entries, pool, out);
+        return write_unfolded(levels_left, c, by_rule, entries, pool, presence, ranks, out);
     }
     let mut at = 0;
     let mut asks: u64 = 1;
     let mut i = 0;
     while i < parts.len() {
         let part = CodePoint(parts[i]);
-        let inner = table::entry_parts(entries, pool, part);
+        let inner = pages::entry_parts(entries, pool, presence, ranks, part);
         // Most parts are whole, and a call costs more than writing one.
         if !decomposes(part, inner) {
             let octets = utf8::write_character(part, &mut out[at..]);
@@ -212,6 +255,8 @@ fn write_unfolded(
                 inner,
                 entries,
                 pool,
+                presence,
+                ranks,
                 &mut out[at..],
             );
             at += written.octets;

@@ -16,7 +16,7 @@ use Rattle.terms.specs.Refusals.{first, gives}
 use Rattle.terms.specs.declared.Collation.{Collation}
 use Rattle.terms.specs.declared.Collation.the-variants.{UnicodeCasemap}
 use Rattle.terms.specs.declared.Refusal.{Refusal}
-use Rattle.terms.proofs.Checks.{answer-given, answer-refused, first-none}
+use Rattle.terms.proofs.Checks.{answer-given, answer-refused, first-none, orElse-neither}
 use Rattle.terms.proofs.Same.{same-exactly}
 use Rattle.octets.specs.Order.{orderOf}
 use Rattle.utf8.specs.Utf8.{Character, characters}
@@ -27,7 +27,7 @@ use Rattle.decompose.specs.TableCheck.{tableRefusal}
 use Rattle.decompose.proofs.Demand3.{accepted-steps}
 use Rattle.keys.specs.Keys.{keyOf, prepared, unicodePrepared}
 use Rattle.keys.specs.Summaries.{truth}
-use Rattle.prepare.specs.Calls.{tableCheck}
+use Rattle.prepare.specs.Calls.{lookupCheck}
 use Rattle.sorting.specs.KeyOrder.{keyIn}
 use Rattle.sorting.specs.Sorted.{numbers}
 use Rattle.partners.specs.Partners.{those, equalTo, equalPairs, partnered, partnerOf, keyPositions}
@@ -58,7 +58,7 @@ use Rattle.demands.proofs.Rules.{many-gives, keys-gives}
 -- ---- many texts: refusals
 
 module _ {c : ManyCall} {r : Batch} {after : List (List ℕ)} (call : ManyCalled c r after) where
-  -- "Refusals 1, 14, 36, 2, 3 to 7, 8": refused with x exactly when x is that of the first rule that applies
+  -- "Refusals 1, 14, 36, 2, 3 to 7, 15, 8": refused with x exactly when x is that of the first rule that applies
   pub many-refused : (x : Refusal) → (r ≡ Refused x) ↔ FirstRule (manyRules c) x
   many-refused x = (
     λ e. many-gives c x .0 (answer-refused (manyRefusal c) (manyValues c) x (rw e at (call .answered))),
@@ -86,11 +86,14 @@ module _ {c : ManyCall} {n : ℕ} {store keyEnds valid : List ℕ}
       let told : gives (n ∷ []) ≡ gives (manyValues c) = rw unrefused at (call .answered) in
       (cc left, cc told)
 
-  passed : (tableCheck (c .collation) (c .table) ≡ none) × (length (joined (manyKeys c)) ≤ length (c .store))
+  passed : (lookupCheck (c .collation) (c .table) (c .pages) ≡ none) × (length (joined (manyKeys c)) ≤ length (c .store))
   unfolding manyRefusal
   passed =
       let rooms = first-none
-      (first (textsChecks (c .collation) (length (c .octets)) (c .ends)) ∷ tableCheck (c .collation) (c .table) ∷ roomsRefusal c ∷ [])
+      (first (textsChecks (c .collation) (length (c .octets)) (c .ends))
+      ∷ lookupCheck (c .collation) (c .table) (c .pages)
+      ∷ roomsRefusal c
+      ∷ [])
       unrefused
       in (
         rooms 1,
@@ -161,7 +164,8 @@ module _ {c : ManyCall} {n : ℕ} {store keyEnds valid : List ℕ}
       → StepsGive (mappingOf (c .table)) chs (getD (manyKeys c) i []) (stepsLookups (mappingOf (c .table)) chs)
   many-exact known i inside chs e =
       let m = mappingOf (c .table) in
-      let ok : tableRefusal (c .table) ≡ none = rw known at (passed .0) in
+      let both = rw known at (passed .0) in
+      let ok : tableRefusal (c .table) ≡ none = orElse-neither (tableRefusal (c .table)) _ both .0 in
       let steps : keyOf UnicodeCasemap m (keyIn (c .octets) (c .ends) i) ≡ stepsKey m chs =
       ap (λ (o : Option (List Character)). unicodePrepared m (keyIn (c .octets) (c .ends) i) o .key) e
       in

@@ -15,23 +15,28 @@ use Rattle.table.specs.Table.{table}
 use Rattle.decompose.specs.TableCheck.{tableAnswer}
 use Rattle.decompose.proofs.check_table.Kinds as check-table-kinds
 use Rattle.decompose.proofs.check_table.Reads as check-table
-use Rattle.prepare.specs.Calls.{Call, oneCall, twoCall, Called}
-use Rattle.prepare.specs.Preparing.{shownKey, Prepares}
+use Rattle.pages.specs.Pages.{pages}
+use Rattle.prepare.specs.Calls.{Call, oneCall, twoCall, Called, CalledPaging}
+use Rattle.prepare.specs.Preparing.{shownKey, Prepares, PreparesPaging}
 use Rattle.prepare.proofs.prepare.Kinds as prepare-kinds
 use Rattle.prepare.proofs.prepare.Reads as prepare
+use Rattle.prepare.proofs.prepare_accepted.Kinds as prepare-accepted-kinds
 use Rattle.prepare.proofs.prepare_accepted.Reads as prepare-accepted
 use Rattle.prepare.proofs.shown_key.Kinds as shown-key-kinds
 use Rattle.prepare.proofs.shown_key.Reads as shown-key
 use Rattle.compare.specs.Compare.{equalityOutcome, equalityValues, orderOutcome, orderValues}
 use Rattle.compare.proofs.equal.Kinds as equal-kinds
 use Rattle.compare.proofs.equal.Reads as equal
+use Rattle.compare.proofs.equal_accepted.Kinds as equal-accepted-kinds
 use Rattle.compare.proofs.equal_accepted.Reads as equal-accepted
 use Rattle.compare.proofs.order.Kinds as order-kinds
 use Rattle.compare.proofs.order.Reads as order
+use Rattle.compare.proofs.order_accepted.Kinds as order-accepted-kinds
 use Rattle.compare.proofs.order_accepted.Reads as order-accepted
 use Rattle.search.specs.Substring.{substringOutcome, soughtValues}
 use Rattle.search.proofs.substring.Kinds as substring-kinds
 use Rattle.search.proofs.substring.Reads as substring
+use Rattle.search.proofs.substring_accepted.Kinds as substring-accepted-kinds
 use Rattle.search.proofs.substring_accepted.Reads as substring-accepted
 use Rattle.records.specs.Items.{ofText, ofKey}
 use Rattle.records.specs.Writing.{Writes}
@@ -41,9 +46,10 @@ use Rattle.records.proofs.write_text.Kinds as write-text-kinds
 use Rattle.records.proofs.write_text.Reads as write-text
 use Rattle.records.proofs.write_key.Kinds as write-key-kinds
 use Rattle.records.proofs.write_key.Reads as write-key
-use Rattle.lists.specs.Lists.{ListsCall, listsCall}
+use Rattle.lists.specs.Lists.{listsCall, SharesPaging}
 use Rattle.lists.proofs.find_shared.Kinds as find-shared-kinds
 use Rattle.lists.proofs.find_shared.Reads as find-shared
+use Rattle.lists.proofs.find_shared_accepted.Kinds as find-shared-accepted-kinds
 use Rattle.lists.proofs.find_shared_accepted.Reads as find-shared-accepted
 use Rattle.demands.specs.Records.{ReadCall}
 use Rattle.demands.specs.Lists.{ShareCall}
@@ -59,13 +65,13 @@ check-table-asks-nothing κs a = tt
 pub add-line-asks-nothing : (κs : Lfts 3) (a : Dens κs add-line-kinds.ps) → add-line.Asked κs a
 add-line-asks-nothing κs a = tt
 
-pub prepare-asks-nothing : (κs : Lfts 4) (a : Dens κs prepare-kinds.ps) → prepare.Asked κs a
+pub prepare-asks-nothing : (κs : Lfts 6) (a : Dens κs prepare-kinds.ps) → prepare.Asked κs a
 prepare-asks-nothing κs a = tt
 
 pub shown-key-asks-nothing : (κs : Lfts 1) (a : Dens κs shown-key-kinds.ps) → shown-key.Asked κs a
 shown-key-asks-nothing κs a = tt
 
-module _ (κs : Lfts 6) (a : Dens κs order-kinds.ps) where
+module _ (κs : Lfts 8) (a : Dens κs order-kinds.ps) where
   pub equal-asks-nothing : equal.Asked κs a
   equal-asks-nothing = tt
 
@@ -93,18 +99,21 @@ add-line-contract κs a r s h = h
 
 -- ---- one text
 
--- `prepare(collation, text, entries, pool, key)` as a call
-abbrev one : (κs : Lfts 4) → Dens κs prepare-kinds.ps → Call
-one κs a = oneCall (collationOf (a .0)) (a .1 .0 .now) (a .1 .1 .0 .now) (a .1 .1 .1 .0 .now) (a .1 .1 .1 .1 .0 .now)
+-- `prepare(collation, text, entries, pool, presence, ranks, key)`: the call, the answer, the key buffer, and the pages
+pub prepare-contract : (κs : Lfts 6) (a : Dens κs prepare-kinds.ps) (r : resT prepare-kinds.r κs .Denot)
+    (s : AtExit (endedOf 6 prepare-kinds.ps prepare-kinds.r) κs)
+    → prepare.Learnt κs a r s
+    → PreparesPaging (oneCall (collationOf (a .0)) (a .1 .0 .now) (a .1 .1 .0 .now) (a .1 .1 .1 .0 .now) (a .1 .1 .1 .1 .0 .now)
+    (a .1 .1 .1 .1 .1 .0 .now) (a .1 .1 .1 .1 .1 .1 .0 .now)) r (s .1 .1 .1 .1 .1 .1 .0 .now) (pages (s .1 .1 .1 .1 .0 .now) (s .1 .1 .1 .1 .1 .0 .now))
+prepare-contract κs a r s h = h
 
-module _ (κs : Lfts 4) (a : Dens κs prepare-kinds.ps) (r : resT prepare-kinds.r κs .Denot)
-    (s : AtExit (endedOf 4 prepare-kinds.ps prepare-kinds.r) κs) where
-  pub prepare-contract : prepare.Learnt κs a r s → Prepares (one κs a) r (s .1 .1 .1 .1 .0 .now)
-  prepare-contract h = h
-
-  -- and its twin
-  pub prepare-accepted-contract : prepare-accepted.Learnt κs a r s → Prepares (one κs a) r (s .1 .1 .1 .1 .0 .now)
-  prepare-accepted-contract h = h
+-- and its twin, which is lent the pages to read
+pub prepare-accepted-contract : (κs : Lfts 6) (a : Dens κs prepare-accepted-kinds.ps) (r : resT prepare-accepted-kinds.r κs .Denot)
+    (s : AtExit (endedOf 6 prepare-accepted-kinds.ps prepare-accepted-kinds.r) κs)
+    → prepare-accepted.Learnt κs a r s
+    → Prepares (oneCall (collationOf (a .0)) (a .1 .0 .now) (a .1 .1 .0 .now) (a .1 .1 .1 .0 .now) (a .1 .1 .1 .1 .0 .now)
+    (a .1 .1 .1 .1 .1 .0 .now) (a .1 .1 .1 .1 .1 .1 .0 .now)) r (s .1 .1 .1 .1 .1 .1 .0 .now)
+prepare-accepted-contract κs a r s h = h
 
 -- `shown_key(text, key, preparation)`
 pub shown-key-contract : (κs : Lfts 1) (a : Dens κs shown-key-kinds.ps) (r : resT shown-key-kinds.r κs .Denot)
@@ -115,42 +124,55 @@ shown-key-contract κs a r s h = h
 
 -- ---- two texts
 
--- a call (collation, first, second, entries, pool, first_key, second_key), which `equal`, `order` and `substring` have alike
-abbrev two : (κs : Lfts 6) → Dens κs order-kinds.ps → Call
+-- a call (collation, first, second, entries, pool, presence, ranks, first_key, second_key), which `equal`, `order` and
+-- `substring` have alike
+abbrev two : (κs : Lfts 8) → Dens κs order-kinds.ps → Call
 two κs a =
     twoCall (collationOf (a .0)) (a .1 .0 .now) (a .1 .1 .0 .now) (a .1 .1 .1 .0 .now) (a .1 .1 .1 .1 .0 .now)
-    (a .1 .1 .1 .1 .1 .0 .now)
-    (a .1 .1 .1 .1 .1 .1 .0 .now)
+    (a .1 .1 .1 .1 .1 .0 .now) (a .1 .1 .1 .1 .1 .1 .0 .now) (a .1 .1 .1 .1 .1 .1 .1 .0 .now)
+    (a .1 .1 .1 .1 .1 .1 .1 .1 .0 .now)
 
-module _ (κs : Lfts 6) (a : Dens κs order-kinds.ps) where
-  module _ (r : resT equal-kinds.r κs .Denot) (s : AtExit (endedOf 6 equal-kinds.ps equal-kinds.r) κs) where
+module _ (κs : Lfts 8) (a : Dens κs order-kinds.ps) where
+  module _ (r : resT equal-kinds.r κs .Denot) (s : AtExit (endedOf 8 equal-kinds.ps equal-kinds.r) κs) where
     pub equal-contract : equal.Learnt κs a r s
-        → Called equalityOutcome equalityValues (two κs a) r (s .1 .1 .1 .1 .1 .0 .now ∷ s .1 .1 .1 .1 .1 .1 .0 .now ∷ [])
+        → CalledPaging equalityOutcome equalityValues (two κs a) r (s .1 .1 .1 .1 .1 .1 .1 .0 .now ∷ s .1 .1 .1 .1 .1 .1 .1 .1 .0 .now ∷ [])
+        (pages (s .1 .1 .1 .1 .1 .0 .now) (s .1 .1 .1 .1 .1 .1 .0 .now))
     equal-contract h = h
 
-    -- and its twin
-    pub equal-accepted-contract : equal-accepted.Learnt κs a r s
-        → Called equalityOutcome equalityValues (two κs a) r (s .1 .1 .1 .1 .1 .0 .now ∷ s .1 .1 .1 .1 .1 .1 .0 .now ∷ [])
-    equal-accepted-contract h = h
-
-  module _ (r : resT order-kinds.r κs .Denot) (s : AtExit (endedOf 6 order-kinds.ps order-kinds.r) κs) where
+  module _ (r : resT order-kinds.r κs .Denot) (s : AtExit (endedOf 8 order-kinds.ps order-kinds.r) κs) where
     pub order-contract : order.Learnt κs a r s
-        → Called orderOutcome orderValues (two κs a) r (s .1 .1 .1 .1 .1 .0 .now ∷ s .1 .1 .1 .1 .1 .1 .0 .now ∷ [])
+        → CalledPaging orderOutcome orderValues (two κs a) r (s .1 .1 .1 .1 .1 .1 .1 .0 .now ∷ s .1 .1 .1 .1 .1 .1 .1 .1 .0 .now ∷ [])
+        (pages (s .1 .1 .1 .1 .1 .0 .now) (s .1 .1 .1 .1 .1 .1 .0 .now))
     order-contract h = h
 
-    -- and its twin
-    pub order-accepted-contract : order-accepted.Learnt κs a r s
-        → Called orderOutcome orderValues (two κs a) r (s .1 .1 .1 .1 .1 .0 .now ∷ s .1 .1 .1 .1 .1 .1 .0 .now ∷ [])
-    order-accepted-contract h = h
-
-  module _ (r : resT substring-kinds.r κs .Denot) (s : AtExit (endedOf 6 substring-kinds.ps substring-kinds.r) κs) where
+  module _ (r : resT substring-kinds.r κs .Denot) (s : AtExit (endedOf 8 substring-kinds.ps substring-kinds.r) κs) where
     pub substring-contract : substring.Learnt κs a r s
-        → Called substringOutcome soughtValues (two κs a) r (s .1 .1 .1 .1 .1 .0 .now ∷ s .1 .1 .1 .1 .1 .1 .0 .now ∷ [])
+        → CalledPaging substringOutcome soughtValues (two κs a) r (s .1 .1 .1 .1 .1 .1 .1 .0 .now ∷ s .1 .1 .1 .1 .1 .1 .1 .1 .0 .now ∷ [])
+        (pages (s .1 .1 .1 .1 .1 .0 .now) (s .1 .1 .1 .1 .1 .1 .0 .now))
     substring-contract h = h
 
-    -- and its twin
+-- and their twins, which are lent the pages to read
+abbrev two-accepted : (κs : Lfts 8) → Dens κs order-accepted-kinds.ps → Call
+two-accepted κs a =
+    twoCall (collationOf (a .0)) (a .1 .0 .now) (a .1 .1 .0 .now) (a .1 .1 .1 .0 .now) (a .1 .1 .1 .1 .0 .now)
+    (a .1 .1 .1 .1 .1 .0 .now) (a .1 .1 .1 .1 .1 .1 .0 .now) (a .1 .1 .1 .1 .1 .1 .1 .0 .now)
+    (a .1 .1 .1 .1 .1 .1 .1 .1 .0 .now)
+
+module _ (κs : Lfts 8) (a : Dens κs order-accepted-kinds.ps) where
+  module _ (r : resT equal-accepted-kinds.r κs .Denot) (s : AtExit (endedOf 8 equal-accepted-kinds.ps equal-accepted-kinds.r) κs) where
+    pub equal-accepted-contract : equal-accepted.Learnt κs a r s
+        → Called equalityOutcome equalityValues (two-accepted κs a) r (s .1 .1 .1 .1 .1 .1 .1 .0 .now ∷ s .1 .1 .1 .1 .1 .1 .1 .1 .0 .now ∷ [])
+    equal-accepted-contract h = h
+
+  module _ (r : resT order-accepted-kinds.r κs .Denot) (s : AtExit (endedOf 8 order-accepted-kinds.ps order-accepted-kinds.r) κs) where
+    pub order-accepted-contract : order-accepted.Learnt κs a r s
+        → Called orderOutcome orderValues (two-accepted κs a) r (s .1 .1 .1 .1 .1 .1 .1 .0 .now ∷ s .1 .1 .1 .1 .1 .1 .1 .1 .0 .now ∷ [])
+    order-accepted-contract h = h
+
+  module _ (r : resT substring-accepted-kinds.r κs .Denot)
+      (s : AtExit (endedOf 8 substring-accepted-kinds.ps substring-accepted-kinds.r) κs) where
     pub substring-accepted-contract : substring-accepted.Learnt κs a r s
-        → Called substringOutcome soughtValues (two κs a) r (s .1 .1 .1 .1 .1 .0 .now ∷ s .1 .1 .1 .1 .1 .1 .0 .now ∷ [])
+        → Called substringOutcome soughtValues (two-accepted κs a) r (s .1 .1 .1 .1 .1 .1 .1 .0 .now ∷ s .1 .1 .1 .1 .1 .1 .1 .1 .0 .now ∷ [])
     substring-accepted-contract h = h
 
 -- ---- records
@@ -190,27 +212,30 @@ module _ (κs : Lfts 2) (a : Dens κs write-key-kinds.ps) where
 
 -- ---- lists
 
--- a call (collation, first, second, entries, pool, store, partners, positions), which both have alike
-abbrev lists : (κs : Lfts 7) → Dens κs find-shared-kinds.ps → ListsCall
-lists κs a =
-    listsCall (collationOf (a .0)) (a .1 .0 .now) (a .1 .1 .0 .now) (a .1 .1 .1 .0 .now) (a .1 .1 .1 .1 .0 .now)
-    (a .1 .1 .1 .1 .1 .0 .now)
-    (a .1 .1 .1 .1 .1 .1 .0 .now)
-    (a .1 .1 .1 .1 .1 .1 .1 .0 .now)
-
--- `find_shared(collation, first, second, entries, pool, store, partners, positions)`
-module _ (κs : Lfts 7) (a : Dens κs find-shared-kinds.ps) where
+-- `find_shared(collation, first, second, entries, pool, presence, ranks, store, partners, positions)`
+module _ (κs : Lfts 9) (a : Dens κs find-shared-kinds.ps) where
   pub find-shared-asks-nothing : find-shared.Asked κs a
   find-shared-asks-nothing = tt
 
-  module _ (r : resT find-shared-kinds.r κs .Denot) (s : AtExit (endedOf 7 find-shared-kinds.ps find-shared-kinds.r) κs) where
-    pub find-shared-contract : find-shared.Learnt κs a r s
-        → ShareCall (lists κs a) r
-        (s .1 .1 .1 .1 .1 .0 .now ∷ s .1 .1 .1 .1 .1 .1 .0 .now ∷ s .1 .1 .1 .1 .1 .1 .1 .0 .now ∷ [])
-    find-shared-contract h = h
+  pub find-shared-contract : (r : resT find-shared-kinds.r κs .Denot)
+      (s : AtExit (endedOf 9 find-shared-kinds.ps find-shared-kinds.r) κs)
+      → find-shared.Learnt κs a r s
+      → SharesPaging
+      (listsCall (collationOf (a .0)) (a .1 .0 .now) (a .1 .1 .0 .now) (a .1 .1 .1 .0 .now) (a .1 .1 .1 .1 .0 .now)
+      (a .1 .1 .1 .1 .1 .0 .now) (a .1 .1 .1 .1 .1 .1 .0 .now) (a .1 .1 .1 .1 .1 .1 .1 .0 .now)
+      (a .1 .1 .1 .1 .1 .1 .1 .1 .0 .now) (a .1 .1 .1 .1 .1 .1 .1 .1 .1 .0 .now)) r
+      (s .1 .1 .1 .1 .1 .1 .1 .0 .now ∷ s .1 .1 .1 .1 .1 .1 .1 .1 .0 .now ∷ s .1 .1 .1 .1 .1 .1 .1 .1 .1 .0 .now ∷ [])
+      (pages (s .1 .1 .1 .1 .1 .0 .now) (s .1 .1 .1 .1 .1 .1 .0 .now))
+  find-shared-contract r s h = h
 
-    -- and its twin
-    pub find-shared-accepted-contract : find-shared-accepted.Learnt κs a r s
-        → ShareCall (lists κs a) r
-        (s .1 .1 .1 .1 .1 .0 .now ∷ s .1 .1 .1 .1 .1 .1 .0 .now ∷ s .1 .1 .1 .1 .1 .1 .1 .0 .now ∷ [])
-    find-shared-accepted-contract h = h
+-- and its twin, which is lent the pages to read
+pub find-shared-accepted-contract : (κs : Lfts 9) (a : Dens κs find-shared-accepted-kinds.ps)
+    (r : resT find-shared-accepted-kinds.r κs .Denot)
+    (s : AtExit (endedOf 9 find-shared-accepted-kinds.ps find-shared-accepted-kinds.r) κs)
+    → find-shared-accepted.Learnt κs a r s
+    → ShareCall
+    (listsCall (collationOf (a .0)) (a .1 .0 .now) (a .1 .1 .0 .now) (a .1 .1 .1 .0 .now) (a .1 .1 .1 .1 .0 .now)
+    (a .1 .1 .1 .1 .1 .0 .now) (a .1 .1 .1 .1 .1 .1 .0 .now) (a .1 .1 .1 .1 .1 .1 .1 .0 .now)
+    (a .1 .1 .1 .1 .1 .1 .1 .1 .0 .now) (a .1 .1 .1 .1 .1 .1 .1 .1 .1 .0 .now)) r
+    (s .1 .1 .1 .1 .1 .1 .1 .0 .now ∷ s .1 .1 .1 .1 .1 .1 .1 .1 .0 .now ∷ s .1 .1 .1 .1 .1 .1 .1 .1 .1 .0 .now ∷ [])
+find-shared-accepted-contract κs a r s h = h

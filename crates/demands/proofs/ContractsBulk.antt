@@ -6,35 +6,33 @@ use contract.Lifetimes.{Lfts}
 use denote.Triple.Clauses.{AtExit}
 use borrow.Fn.Kinds.{Dens, endedOf, resT}
 use Rattle.terms.specs.Collations.{collationOf}
-use Rattle.many.specs.Many.{ManyCall, manyCall}
+use Rattle.pages.specs.Pages.{pages}
+use Rattle.many.specs.Many.{manyCall, PreparesManyPaging}
 use Rattle.many.proofs.prepare_many.Kinds as prepare-many-kinds
 use Rattle.many.proofs.prepare_many.Reads as prepare-many
 use Rattle.matching.specs.Matching.{KeysCall, keysCall, Matches}
 use Rattle.matching.proofs.match_keys.Kinds as match-keys-kinds
 use Rattle.matching.proofs.match_keys.Reads as match-keys
-use Rattle.mz_many.specs.Promises.{PreparesManyRow, MatchesRow}
+use Rattle.mz_many.specs.Promises.{PreparesManyRowPaging, MatchesRow}
 use Rattle.mz_many.proofs.mz_prepare_many.Kinds as mz-prepare-many-kinds
 use Rattle.mz_many.proofs.mz_prepare_many.Reads as mz-prepare-many
 use Rattle.mz_many.proofs.mz_match_keys.Kinds as mz-match-keys-kinds
 use Rattle.mz_many.proofs.mz_match_keys.Reads as mz-match-keys
-use Rattle.demands.specs.Bulk.{ManyCalled}
 
--- `prepare_many(collation, octets, ends, entries, pool, store, key_ends, valid)`
-module _ (κs : Lfts 7) (a : Dens κs prepare-many-kinds.ps) where
-  abbrev many : ManyCall
-  many =
-      manyCall (collationOf (a .0)) (a .1 .0 .now) (a .1 .1 .0 .now) (a .1 .1 .1 .0 .now) (a .1 .1 .1 .1 .0 .now)
-      (a .1 .1 .1 .1 .1 .0 .now)
-      (a .1 .1 .1 .1 .1 .1 .0 .now)
-      (a .1 .1 .1 .1 .1 .1 .1 .0 .now)
-
+-- `prepare_many(collation, octets, ends, entries, pool, presence, ranks, store, key_ends, valid)`
+module _ (κs : Lfts 9) (a : Dens κs prepare-many-kinds.ps) where
   pub prepare-many-asks-nothing : prepare-many.Asked κs a
   prepare-many-asks-nothing = tt
 
   pub prepare-many-contract : (r : resT prepare-many-kinds.r κs .Denot)
-      (s : AtExit (endedOf 7 prepare-many-kinds.ps prepare-many-kinds.r) κs)
+      (s : AtExit (endedOf 9 prepare-many-kinds.ps prepare-many-kinds.r) κs)
       → prepare-many.Learnt κs a r s
-      → ManyCalled many r (s .1 .1 .1 .1 .1 .0 .now ∷ s .1 .1 .1 .1 .1 .1 .0 .now ∷ s .1 .1 .1 .1 .1 .1 .1 .0 .now ∷ [])
+      → PreparesManyPaging
+      (manyCall (collationOf (a .0)) (a .1 .0 .now) (a .1 .1 .0 .now) (a .1 .1 .1 .0 .now) (a .1 .1 .1 .1 .0 .now)
+      (a .1 .1 .1 .1 .1 .0 .now) (a .1 .1 .1 .1 .1 .1 .0 .now) (a .1 .1 .1 .1 .1 .1 .1 .0 .now)
+      (a .1 .1 .1 .1 .1 .1 .1 .1 .0 .now) (a .1 .1 .1 .1 .1 .1 .1 .1 .1 .0 .now)) r
+      (s .1 .1 .1 .1 .1 .1 .1 .0 .now ∷ s .1 .1 .1 .1 .1 .1 .1 .1 .0 .now ∷ s .1 .1 .1 .1 .1 .1 .1 .1 .1 .0 .now ∷ [])
+      (pages (s .1 .1 .1 .1 .1 .0 .now) (s .1 .1 .1 .1 .1 .1 .0 .now))
   prepare-many-contract r s h = h
 
 -- `match_keys(store, ends, first_names, row, repeats, partners)`
@@ -52,21 +50,20 @@ module _ (κs : Lfts 5) (a : Dens κs match-keys-kinds.ps) where
       → Matches keys r (s .1 .1 .1 .0 .now ∷ s .1 .1 .1 .1 .0 .now ∷ s .1 .1 .1 .1 .1 .0 .now ∷ [])
   match-keys-contract r s h = h
 
--- `mz_prepare_many(collation, octets, ends, entries, pool, store, key_ends, valid, answer)`
-module _ (κs : Lfts 8) (a : Dens κs mz-prepare-many-kinds.ps) where
+-- `mz_prepare_many(collation, octets, ends, entries, pool, presence, ranks, store, key_ends, valid, answer)`
+module _ (κs : Lfts 10) (a : Dens κs mz-prepare-many-kinds.ps) where
   pub mz-prepare-many-asks-nothing : mz-prepare-many.Asked κs a
   mz-prepare-many-asks-nothing = tt
 
   pub mz-prepare-many-contract : (r : resT mz-prepare-many-kinds.r κs .Denot)
-      (s : AtExit (endedOf 8 mz-prepare-many-kinds.ps mz-prepare-many-kinds.r) κs)
+      (s : AtExit (endedOf 10 mz-prepare-many-kinds.ps mz-prepare-many-kinds.r) κs)
       → mz-prepare-many.Learnt κs a r s
-      → PreparesManyRow
+      → PreparesManyRowPaging
       (manyCall (collationOf (a .0)) (a .1 .0 .now) (a .1 .1 .0 .now) (a .1 .1 .1 .0 .now) (a .1 .1 .1 .1 .0 .now)
-      (a .1 .1 .1 .1 .1 .0 .now)
-      (a .1 .1 .1 .1 .1 .1 .0 .now)
-      (a .1 .1 .1 .1 .1 .1 .1 .0 .now))
-      (s .1 .1 .1 .1 .1 .1 .1 .1 .0 .now)
-      (s .1 .1 .1 .1 .1 .0 .now ∷ s .1 .1 .1 .1 .1 .1 .0 .now ∷ s .1 .1 .1 .1 .1 .1 .1 .0 .now ∷ [])
+      (a .1 .1 .1 .1 .1 .0 .now) (a .1 .1 .1 .1 .1 .1 .0 .now) (a .1 .1 .1 .1 .1 .1 .1 .0 .now)
+      (a .1 .1 .1 .1 .1 .1 .1 .1 .0 .now) (a .1 .1 .1 .1 .1 .1 .1 .1 .1 .0 .now)) (s .1 .1 .1 .1 .1 .1 .1 .1 .1 .1 .0 .now)
+      (s .1 .1 .1 .1 .1 .1 .1 .0 .now ∷ s .1 .1 .1 .1 .1 .1 .1 .1 .0 .now ∷ s .1 .1 .1 .1 .1 .1 .1 .1 .1 .0 .now ∷ [])
+      (pages (s .1 .1 .1 .1 .1 .0 .now) (s .1 .1 .1 .1 .1 .1 .0 .now))
   mz-prepare-many-contract r s h = h
 
 -- `mz_match_keys(store, ends, first_names, row, repeats, partners, answer)`

@@ -12,6 +12,7 @@ use Rattle.terms.specs.Collations.{collationOf}
 use Rattle.terms.specs.Refusals.{row}
 use Rattle.table.specs.Table.{table}
 use Rattle.decompose.specs.TableCheck.{tableAnswer}
+use Rattle.pages.specs.Pages.{pages}
 use Rattle.prepare.specs.Calls.{Call, oneCall, twoCall}
 use Rattle.prepare.specs.Preparing.{preparedValues}
 use Rattle.compare.specs.Compare.{equalityValues, orderValues}
@@ -31,17 +32,20 @@ use Rattle.mz_records.proofs.mz_write_text.Kinds as mz-write-text-kinds
 use Rattle.mz_records.proofs.mz_write_text.Reads as mz-write-text
 use Rattle.mz_records.proofs.mz_write_key.Kinds as mz-write-key-kinds
 use Rattle.mz_records.proofs.mz_write_key.Reads as mz-write-key
-use Rattle.lists.specs.Lists.{ListsCall, listsCall}
-use Rattle.mz_lists.specs.Promises.{SharesRow}
+use Rattle.lists.specs.Lists.{listsCall}
+use Rattle.mz_lists.specs.Promises.{SharesRow, SharesRowPaging}
 use Rattle.mz_lists.proofs.mz_find_shared.Kinds as mz-find-shared-kinds
 use Rattle.mz_lists.proofs.mz_find_shared.Reads as mz-find-shared
+use Rattle.mz_lists.proofs.mz_find_shared_accepted.Kinds as mz-find-shared-accepted-kinds
 use Rattle.mz_lists.proofs.mz_find_shared_accepted.Reads as mz-find-shared-accepted
-use Rattle.mz_texts.specs.Promises.{RowAnswered}
+use Rattle.mz_texts.specs.Promises.{RowAnswered, RowPaging}
 use Rattle.mz_texts.proofs.one_text.mz_prepare.Kinds as mz-prepare-kinds
 use Rattle.mz_texts.proofs.one_text.mz_prepare.Reads as mz-prepare
+use Rattle.mz_texts.proofs.one_text.mz_prepare_accepted.Kinds as mz-prepare-accepted-kinds
 use Rattle.mz_texts.proofs.one_text.mz_prepare_accepted.Reads as mz-prepare-accepted
 use Rattle.mz_texts.proofs.two_texts.mz_equal.Kinds as mz-equal-kinds
 use Rattle.mz_texts.proofs.two_texts.mz_equal.Reads as mz-equal
+use Rattle.mz_texts.proofs.two_texts.mz_equal_accepted.Kinds as mz-equal-accepted-kinds
 use Rattle.mz_texts.proofs.two_texts.mz_equal_accepted.Reads as mz-equal-accepted
 use Rattle.mz_texts.proofs.two_texts.mz_order.Reads as mz-order
 use Rattle.mz_texts.proofs.two_texts.mz_order_accepted.Reads as mz-order-accepted
@@ -73,29 +77,34 @@ module _ (κs : Lfts 4) (a : Dens κs mz-add-line-kinds.ps) where
       (a .1 .1 .1 .0 .now) (s .1 .1 .1 .1 .1 .1 .0 .now) (table (s .1 .1 .1 .1 .0 .now) (s .1 .1 .1 .1 .1 .0 .now))
   mz-add-line-contract r s h = h
 
--- ---- one text: (collation, text, entries, pool, key, answer)
+-- ---- one text: (collation, text, entries, pool, presence, ranks, key, answer)
 
-module _ (κs : Lfts 5) (a : Dens κs mz-prepare-kinds.ps) where
-  abbrev one : Call
-  one = oneCall (collationOf (a .0)) (a .1 .0 .now) (a .1 .1 .0 .now) (a .1 .1 .1 .0 .now) (a .1 .1 .1 .1 .0 .now)
-
+module _ (κs : Lfts 7) (a : Dens κs mz-prepare-kinds.ps) where
   pub mz-prepare-asks-nothing : mz-prepare.Asked κs a
   mz-prepare-asks-nothing = tt
 
-  module _ (r : resT mz-prepare-kinds.r κs .Denot) (s : AtExit (endedOf 5 mz-prepare-kinds.ps mz-prepare-kinds.r) κs) where
-    pub mz-prepare-contract : mz-prepare.Learnt κs a r s
-        → RowAnswered 4 preparedValues one (s .1 .1 .1 .1 .1 .0 .now) (s .1 .1 .1 .1 .0 .now ∷ [])
-    mz-prepare-contract h = h
+  pub mz-prepare-contract : (r : resT mz-prepare-kinds.r κs .Denot)
+      (s : AtExit (endedOf 7 mz-prepare-kinds.ps mz-prepare-kinds.r) κs)
+      → mz-prepare.Learnt κs a r s
+      → RowPaging 4 preparedValues (oneCall (collationOf (a .0)) (a .1 .0 .now) (a .1 .1 .0 .now) (a .1 .1 .1 .0 .now) (a .1 .1 .1 .1 .0 .now)
+      (a .1 .1 .1 .1 .1 .0 .now) (a .1 .1 .1 .1 .1 .1 .0 .now))
+      (s .1 .1 .1 .1 .1 .1 .1 .0 .now) (s .1 .1 .1 .1 .1 .1 .0 .now ∷ []) (pages (s .1 .1 .1 .1 .0 .now) (s .1 .1 .1 .1 .1 .0 .now))
+  mz-prepare-contract r s h = h
 
-    -- and its twin
-    pub mz-prepare-accepted-contract : mz-prepare-accepted.Learnt κs a r s
-        → RowAnswered 4 preparedValues one (s .1 .1 .1 .1 .1 .0 .now) (s .1 .1 .1 .1 .0 .now ∷ [])
-    mz-prepare-accepted-contract h = h
+-- and its twin, which is lent the pages to read
+module _ (κs : Lfts 7) (a : Dens κs mz-prepare-accepted-kinds.ps) where
+  pub mz-prepare-accepted-contract : (r : resT mz-prepare-accepted-kinds.r κs .Denot)
+      (s : AtExit (endedOf 7 mz-prepare-accepted-kinds.ps mz-prepare-accepted-kinds.r) κs)
+      → mz-prepare-accepted.Learnt κs a r s
+      → RowAnswered 4 preparedValues (oneCall (collationOf (a .0)) (a .1 .0 .now) (a .1 .1 .0 .now) (a .1 .1 .1 .0 .now) (a .1 .1 .1 .1 .0 .now)
+      (a .1 .1 .1 .1 .1 .0 .now) (a .1 .1 .1 .1 .1 .1 .0 .now))
+      (s .1 .1 .1 .1 .1 .1 .1 .0 .now) (s .1 .1 .1 .1 .1 .1 .0 .now ∷ [])
+  mz-prepare-accepted-contract r s h = h
 
--- ---- two texts: (collation, first, second, entries, pool, first_key, second_key, answer)
+-- ---- two texts: (collation, first, second, entries, pool, presence, ranks, first_key, second_key, answer)
 
 -- their parameters are of the same kinds
-module _ (κs : Lfts 7) (a : Dens κs mz-equal-kinds.ps) where
+module _ (κs : Lfts 9) (a : Dens κs mz-equal-kinds.ps) where
   pub mz-equal-asks-nothing : mz-equal.Asked κs a
   mz-equal-asks-nothing = tt
 
@@ -105,32 +114,44 @@ module _ (κs : Lfts 7) (a : Dens κs mz-equal-kinds.ps) where
   pub mz-substring-asks-nothing : mz-substring.Asked κs a
   mz-substring-asks-nothing = tt
 
-  module _ (r : resT mz-equal-kinds.r κs .Denot) (s : AtExit (endedOf 7 mz-equal-kinds.ps mz-equal-kinds.r) κs) where
-    -- the row, of so many numbers after the refusal's, and both buffers
-    abbrev answered : ℕ → (Call → Option (List ℕ)) → Type 0
-    answered n values =
-        RowAnswered n values (twoCall (collationOf (a .0)) (a .1 .0 .now) (a .1 .1 .0 .now) (a .1 .1 .1 .0 .now)
-        (a .1 .1 .1 .1 .0 .now) (a .1 .1 .1 .1 .1 .0 .now) (a .1 .1 .1 .1 .1 .1 .0 .now)) (s .1 .1 .1 .1 .1 .1 .1 .0 .now)
-        (s .1 .1 .1 .1 .1 .0 .now ∷ s .1 .1 .1 .1 .1 .1 .0 .now ∷ [])
+  module _ (r : resT mz-equal-kinds.r κs .Denot) (s : AtExit (endedOf 9 mz-equal-kinds.ps mz-equal-kinds.r) κs) where
+    -- the row, of so many numbers after the refusal's, both buffers, and the pages
+    abbrev paging : ℕ → (Call → Option (List ℕ)) → Type 0
+    paging n values =
+        RowPaging n values (twoCall (collationOf (a .0)) (a .1 .0 .now) (a .1 .1 .0 .now) (a .1 .1 .1 .0 .now) (a .1 .1 .1 .1 .0 .now)
+        (a .1 .1 .1 .1 .1 .0 .now) (a .1 .1 .1 .1 .1 .1 .0 .now) (a .1 .1 .1 .1 .1 .1 .1 .0 .now)
+        (a .1 .1 .1 .1 .1 .1 .1 .1 .0 .now)) (s .1 .1 .1 .1 .1 .1 .1 .1 .1 .0 .now)
+        (s .1 .1 .1 .1 .1 .1 .1 .0 .now ∷ s .1 .1 .1 .1 .1 .1 .1 .1 .0 .now ∷ [])
+        (pages (s .1 .1 .1 .1 .1 .0 .now) (s .1 .1 .1 .1 .1 .1 .0 .now))
 
-    pub mz-equal-contract : mz-equal.Learnt κs a r s → answered 1 equalityValues
+    pub mz-equal-contract : mz-equal.Learnt κs a r s → paging 1 equalityValues
     mz-equal-contract h = h
 
-    pub mz-order-contract : mz-order.Learnt κs a r s → answered 1 orderValues
+    pub mz-order-contract : mz-order.Learnt κs a r s → paging 1 orderValues
     mz-order-contract h = h
 
-    pub mz-substring-contract : mz-substring.Learnt κs a r s → answered 5 soughtValues
+    pub mz-substring-contract : mz-substring.Learnt κs a r s → paging 5 soughtValues
     mz-substring-contract h = h
 
-    -- and their twins
-    pub mz-equal-accepted-contract : mz-equal-accepted.Learnt κs a r s → answered 1 equalityValues
-    mz-equal-accepted-contract h = h
+-- and their twins, which are lent the pages to read
+module _ (κs : Lfts 9) (a : Dens κs mz-equal-accepted-kinds.ps) (r : resT mz-equal-accepted-kinds.r κs .Denot)
+    (s : AtExit (endedOf 9 mz-equal-accepted-kinds.ps mz-equal-accepted-kinds.r) κs) where
+  -- the row, of so many numbers after the refusal's, and both buffers
+  abbrev answered : ℕ → (Call → Option (List ℕ)) → Type 0
+  answered n values =
+      RowAnswered n values (twoCall (collationOf (a .0)) (a .1 .0 .now) (a .1 .1 .0 .now) (a .1 .1 .1 .0 .now) (a .1 .1 .1 .1 .0 .now)
+      (a .1 .1 .1 .1 .1 .0 .now) (a .1 .1 .1 .1 .1 .1 .0 .now) (a .1 .1 .1 .1 .1 .1 .1 .0 .now)
+      (a .1 .1 .1 .1 .1 .1 .1 .1 .0 .now)) (s .1 .1 .1 .1 .1 .1 .1 .1 .1 .0 .now)
+      (s .1 .1 .1 .1 .1 .1 .1 .0 .now ∷ s .1 .1 .1 .1 .1 .1 .1 .1 .0 .now ∷ [])
 
-    pub mz-order-accepted-contract : mz-order-accepted.Learnt κs a r s → answered 1 orderValues
-    mz-order-accepted-contract h = h
+  pub mz-equal-accepted-contract : mz-equal-accepted.Learnt κs a r s → answered 1 equalityValues
+  mz-equal-accepted-contract h = h
 
-    pub mz-substring-accepted-contract : mz-substring-accepted.Learnt κs a r s → answered 5 soughtValues
-    mz-substring-accepted-contract h = h
+  pub mz-order-accepted-contract : mz-order-accepted.Learnt κs a r s → answered 1 orderValues
+  mz-order-accepted-contract h = h
+
+  pub mz-substring-accepted-contract : mz-substring-accepted.Learnt κs a r s → answered 5 soughtValues
+  mz-substring-accepted-contract h = h
 
 -- ---- records
 
@@ -170,28 +191,30 @@ module _ (κs : Lfts 3) (a : Dens κs mz-write-key-kinds.ps) where
 
 -- ---- lists
 
--- a call (collation, first, second, entries, pool, store, partners, positions, answer), which both have alike
-abbrev lists : (κs : Lfts 8) → Dens κs mz-find-shared-kinds.ps → ListsCall
-lists κs a =
-    listsCall (collationOf (a .0)) (a .1 .0 .now) (a .1 .1 .0 .now) (a .1 .1 .1 .0 .now) (a .1 .1 .1 .1 .0 .now)
-    (a .1 .1 .1 .1 .1 .0 .now)
-    (a .1 .1 .1 .1 .1 .1 .0 .now)
-    (a .1 .1 .1 .1 .1 .1 .1 .0 .now)
-
--- `mz_find_shared(collation, first, second, entries, pool, store, partners, positions, answer)`
-module _ (κs : Lfts 8) (a : Dens κs mz-find-shared-kinds.ps) where
+-- `mz_find_shared(collation, first, second, entries, pool, presence, ranks, store, partners, positions, answer)`
+module _ (κs : Lfts 10) (a : Dens κs mz-find-shared-kinds.ps) where
   pub mz-find-shared-asks-nothing : mz-find-shared.Asked κs a
   mz-find-shared-asks-nothing = tt
 
-  module _ (r : resT mz-find-shared-kinds.r κs .Denot) (s : AtExit
-      (endedOf 8 mz-find-shared-kinds.ps mz-find-shared-kinds.r) κs) where
-    pub mz-find-shared-contract : mz-find-shared.Learnt κs a r s
-        → SharesRow (lists κs a) (s .1 .1 .1 .1 .1 .1 .1 .1 .0 .now)
-        (s .1 .1 .1 .1 .1 .0 .now ∷ s .1 .1 .1 .1 .1 .1 .0 .now ∷ s .1 .1 .1 .1 .1 .1 .1 .0 .now ∷ [])
-    mz-find-shared-contract h = h
+  pub mz-find-shared-contract : (r : resT mz-find-shared-kinds.r κs .Denot)
+      (s : AtExit (endedOf 10 mz-find-shared-kinds.ps mz-find-shared-kinds.r) κs)
+      → mz-find-shared.Learnt κs a r s
+      → SharesRowPaging
+      (listsCall (collationOf (a .0)) (a .1 .0 .now) (a .1 .1 .0 .now) (a .1 .1 .1 .0 .now) (a .1 .1 .1 .1 .0 .now)
+      (a .1 .1 .1 .1 .1 .0 .now) (a .1 .1 .1 .1 .1 .1 .0 .now) (a .1 .1 .1 .1 .1 .1 .1 .0 .now)
+      (a .1 .1 .1 .1 .1 .1 .1 .1 .0 .now) (a .1 .1 .1 .1 .1 .1 .1 .1 .1 .0 .now)) (s .1 .1 .1 .1 .1 .1 .1 .1 .1 .1 .0 .now)
+      (s .1 .1 .1 .1 .1 .1 .1 .0 .now ∷ s .1 .1 .1 .1 .1 .1 .1 .1 .0 .now ∷ s .1 .1 .1 .1 .1 .1 .1 .1 .1 .0 .now ∷ [])
+      (pages (s .1 .1 .1 .1 .1 .0 .now) (s .1 .1 .1 .1 .1 .1 .0 .now))
+  mz-find-shared-contract r s h = h
 
-    -- and its twin
-    pub mz-find-shared-accepted-contract : mz-find-shared-accepted.Learnt κs a r s
-        → SharesRow (lists κs a) (s .1 .1 .1 .1 .1 .1 .1 .1 .0 .now)
-        (s .1 .1 .1 .1 .1 .0 .now ∷ s .1 .1 .1 .1 .1 .1 .0 .now ∷ s .1 .1 .1 .1 .1 .1 .1 .0 .now ∷ [])
-    mz-find-shared-accepted-contract h = h
+-- and its twin, which is lent the pages to read
+module _ (κs : Lfts 10) (a : Dens κs mz-find-shared-accepted-kinds.ps) where
+  pub mz-find-shared-accepted-contract : (r : resT mz-find-shared-accepted-kinds.r κs .Denot)
+      (s : AtExit (endedOf 10 mz-find-shared-accepted-kinds.ps mz-find-shared-accepted-kinds.r) κs)
+      → mz-find-shared-accepted.Learnt κs a r s
+      → SharesRow
+      (listsCall (collationOf (a .0)) (a .1 .0 .now) (a .1 .1 .0 .now) (a .1 .1 .1 .0 .now) (a .1 .1 .1 .1 .0 .now)
+      (a .1 .1 .1 .1 .1 .0 .now) (a .1 .1 .1 .1 .1 .1 .0 .now) (a .1 .1 .1 .1 .1 .1 .1 .0 .now)
+      (a .1 .1 .1 .1 .1 .1 .1 .1 .0 .now) (a .1 .1 .1 .1 .1 .1 .1 .1 .1 .0 .now)) (s .1 .1 .1 .1 .1 .1 .1 .1 .1 .1 .0 .now)
+      (s .1 .1 .1 .1 .1 .1 .1 .0 .now ∷ s .1 .1 .1 .1 .1 .1 .1 .1 .0 .now ∷ s .1 .1 .1 .1 .1 .1 .1 .1 .1 .0 .now ∷ [])
+  mz-find-shared-accepted-contract r s h = h

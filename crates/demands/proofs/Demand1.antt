@@ -28,6 +28,7 @@ use Rattle.decompose.specs.TableCheck.{levelFault, tableRefusal, tableAnswer, U
 use Rattle.decompose.specs.Levels.{Level, Leads}
 use Rattle.decompose.proofs.Cycles.{cycle-no-level, into-cycle-no-level}
 use Rattle.keys.specs.Keys.{prepared, roomFor}
+use Rattle.pages.specs.Pages.{Pages}
 use Rattle.prepare.specs.Calls.{Lent, Call, call, lengths, textsRefusal, readyRefusal, callRefusal, Called}
 use Rattle.prepare.proofs.Answering.{answered-refused}
 use Rattle.ucd.specs.Fields.{field, codePoint, decomposition}
@@ -67,7 +68,7 @@ unfolding tableRefusal formRefusal
 table-first t x =
     rw (sym (first-append (formChecks t) (refusedAt 7 (levelFault t) ∷ []))) (first-applies (tableChecks t) x)
 
--- that of a call on texts is the first of 1; 2 of each text; 3 to 7; 8 of each key
+-- that of a call on texts is the first of 1; 2 of each text; 3 to 7; 15; 8 of each key
 pub call-first : (c : Call) (x : Refusal) → (callRefusal c ≡ some x) ↔ FirstApplies (callChecks c) x
 call-first c x = rw (sym (first-callChecks c)) (first-applies (callChecks c) x)
 
@@ -98,38 +99,38 @@ line-refused {b} {line} {r} h x = (
 -- each number in words: `Clear` says that none of the faults before it applies
 
 -- of a call on texts, one or two, each with its buffer: 1 exactly when the collation is not 1, 2, 3
-pub number-1 : (k : ℕ) (t : Table) (ls : List Lent)
-    → (callRefusal (call (collationOf k) t ls) ≡ some (refusal 1 0 0)) ↔ (CollationNumber k → ⊥)
+pub number-1 : (k : ℕ) (t : Table) (pg : Pages) (ls : List Lent)
+    → (callRefusal (call (collationOf k) t pg ls) ≡ some (refusal 1 0 0)) ↔ (CollationNumber k → ⊥)
 number-1 = one-exactly
 
-module _ (k : Collation) (t : Table) where
+module _ (k : Collation) (t : Table) (pg : Pages) where
   -- else 2 at place 1, with its length, exactly when the first text is over 4,096 octets
   pub number-2-first : (l : Lent) (ls : List Lent)
-      → (callRefusal (call (some k) t (l ∷ ls)) ≡ some (refusal 2 1 (length (l .text)))) ↔ (4096 < length (l .text))
-  number-2-first = two-first k t
+      → (callRefusal (call (some k) t pg (l ∷ ls)) ≡ some (refusal 2 1 (length (l .text)))) ↔ (4096 < length (l .text))
+  number-2-first = two-first k t pg
 
   -- else 2 at place 2 exactly when the second is
   pub number-2-second : (l n : Lent) → length (l .text) ≤ 4096
-      → (callRefusal (call (some k) t (l ∷ n ∷ [])) ≡ some (refusal 2 2 (length (n .text)))) ↔ (4096 < length (n .text))
-  number-2-second = two-second k t
+      → (callRefusal (call (some k) t pg (l ∷ n ∷ [])) ≡ some (refusal 2 2 (length (n .text)))) ↔ (4096 < length (n .text))
+  number-2-second = two-second k t pg
 
-  -- where none of 1 to 7 applies, 8 at place 1 exactly when the first key belongs in its buffer and is longer, with that length
-  pub number-8-first : (l : Lent) (ls : List Lent) → readyRefusal (call (some k) t (l ∷ ls)) ≡ none
+  -- where none of 1 to 7 and 15 applies, 8 at place 1 exactly when the first key belongs in its buffer and is longer, with that length
+  pub number-8-first : (l : Lent) (ls : List Lent) → readyRefusal (call (some k) t pg (l ∷ ls)) ≡ none
       → let n = roomFor (prepared k (mappingOf t) (l .text)) in
-      (callRefusal (call (some k) t (l ∷ ls)) ≡ some (refusal 8 1 n)) ↔ (length (l .buffer) < n)
-  number-8-first = eight-first k t
+      (callRefusal (call (some k) t pg (l ∷ ls)) ≡ some (refusal 8 1 n)) ↔ (length (l .buffer) < n)
+  number-8-first = eight-first k t pg
 
   -- else 8 at place 2 exactly when the second does and is
-  pub number-8-second : (l o : Lent) → readyRefusal (call (some k) t (l ∷ o ∷ [])) ≡ none
+  pub number-8-second : (l o : Lent) → readyRefusal (call (some k) t pg (l ∷ o ∷ [])) ≡ none
       → roomFor (prepared k (mappingOf t) (l .text)) ≤ length (l .buffer)
       → let n = roomFor (prepared k (mappingOf t) (o .text)) in
-      (callRefusal (call (some k) t (l ∷ o ∷ [])) ≡ some (refusal 8 2 n)) ↔ (length (o .buffer) < n)
-  number-8-second = eight-second k t
+      (callRefusal (call (some k) t pg (l ∷ o ∷ [])) ≡ some (refusal 8 2 n)) ↔ (length (o .buffer) < n)
+  number-8-second = eight-second k t pg
 
 -- 3 to 7 of a call under collation 3 are those of its table, where neither 1 nor 2 applies; under 1 and 2 the table is not read
-pub number-3-to-7 : (t : Table) (ls : List Lent)
-    → textsRefusal (some UnicodeCasemap) (lengths (call (some UnicodeCasemap) t ls)) ≡ none
-    → (x : Refusal) → x .number ≤ 7 → (callRefusal (call (some UnicodeCasemap) t ls) ≡ some x) ↔ (tableRefusal t ≡ some x)
+pub number-3-to-7 : (t : Table) (pg : Pages) (ls : List Lent)
+    → textsRefusal (some UnicodeCasemap) (lengths (call (some UnicodeCasemap) t pg ls)) ≡ none
+    → (x : Refusal) → x .number ≤ 7 → (callRefusal (call (some UnicodeCasemap) t pg ls) ≡ some x) ↔ (tableRefusal t ≡ some x)
 number-3-to-7 = table-exactly
 
 module _ (t : Table) where

@@ -29,6 +29,7 @@ use Rattle.decompose.proofs.Demand3.{accepted-steps}
 use Rattle.keys.specs.Keys.{PreparedText, upper, prepared, keyOf}
 use Rattle.keys.specs.declared.Summary.{Summary}
 use Rattle.keys.proofs.Validity.{key-valid, key-invalid}
+use Rattle.pages.specs.Pages.{Pages}
 use Rattle.prepare.specs.Calls.{Lent, lent, call, Called}
 use Rattle.prepare.specs.Preparing.{shownKey, Prepares}
 use Rattle.prepare.specs.declared.Preparation.{Preparation}
@@ -65,8 +66,8 @@ use Rattle.demands.proofs.TableFaults.{syllable-exactly}
 -- ---- "Keys, equality, order and substring are RFC 4790's and RFC 5051's over the lent table."
 
 -- keys: what is shown of a prepared text is its key
-pub prepare-key : {k : Collation} {t : Table} {l : Lent} {r : Preparation} {after : List ℕ}
-    → Prepares (call (some k) t (l ∷ [])) r after
+pub prepare-key : {k : Collation} {t : Table} {pg : Pages} {l : Lent} {r : Preparation} {after : List ℕ}
+    → Prepares (call (some k) t pg (l ∷ [])) r after
     → (s : Summary) → r ≡ Prepared s → shownKey r (l .text) after ≡ keyOf k (mappingOf t) (l .text)
 prepare-key h s e = shows h e
 
@@ -133,31 +134,31 @@ pub order-transitive : {p q s : PreparedText} {r x y : Ordered} → OrderSays p 
 order-transitive = answers-trans
 
 -- of a call of `equal` or `order` on two texts these are the texts prepared, where it is not refused
-pub equal-says : {k : Collation} {t : Table} {l m : Lent} {r : Equality} {after : List (List ℕ)}
-    → Called equalityOutcome equalityValues (call (some k) t (l ∷ m ∷ [])) r after → Given (equalityOutcome r)
+pub equal-says : {k : Collation} {t : Table} {pg : Pages} {l m : Lent} {r : Equality} {after : List (List ℕ)}
+    → Called equalityOutcome equalityValues (call (some k) t pg (l ∷ m ∷ [])) r after → Given (equalityOutcome r)
     → EqualSays (prepared k (mappingOf t) (l .text)) (prepared k (mappingOf t) (m .text)) r
 equal-says = says
 
-pub order-says : {k : Collation} {t : Table} {l m : Lent} {r : Ordered} {after : List (List ℕ)}
-    → Called orderOutcome orderValues (call (some k) t (l ∷ m ∷ [])) r after → Given (orderOutcome r)
+pub order-says : {k : Collation} {t : Table} {pg : Pages} {l m : Lent} {r : Ordered} {after : List (List ℕ)}
+    → Called orderOutcome orderValues (call (some k) t pg (l ∷ m ∷ [])) r after → Given (orderOutcome r)
     → OrderSays (prepared k (mappingOf t) (l .text)) (prepared k (mappingOf t) (m .text)) r
 order-says = says
 
-module _ {t : Table} {l m : Lent} {after : List (List ℕ)}
+module _ {t : Table} {pg : Pages} {l m : Lent} {after : List (List ℕ)}
     (apart : there (characters (l .text)) ≡ there (characters (m .text)) → ⊥) where
   -- under collation 3 a valid and an invalid text never match
-  pub never-match : {r : Equality} → Called equalityOutcome equalityValues (call (some UnicodeCasemap) t (l ∷ m ∷ [])) r after
+  pub never-match : {r : Equality} → Called equalityOutcome equalityValues (call (some UnicodeCasemap) t pg (l ∷ m ∷ [])) r after
       → r ≡ Match → ⊥
   never-match h e = apart (matches-valid (rw e at h))
 
   -- nor tie
-  pub never-tie : {r : Ordered} → Called orderOutcome orderValues (call (some UnicodeCasemap) t (l ∷ m ∷ [])) r after
+  pub never-tie : {r : Ordered} → Called orderOutcome orderValues (call (some UnicodeCasemap) t pg (l ∷ m ∷ [])) r after
       → r ≡ Equal → ⊥
   never-tie h e = apart (answers-valid (rw e at h))
 
 -- substring, where it is not refused: the text s of l sought in the text u of n
-module _ {k : Collation} {t : Table} {l n : Lent} {r : Sought} {after : List (List ℕ)}
-    (h : Called substringOutcome soughtValues (call (some k) t (l ∷ n ∷ [])) r after) (answers : Given (substringOutcome r)) where
+module _ {k : Collation} {t : Table} {pg : Pages} {l n : Lent} {r : Sought} {after : List (List ℕ)}
+    (h : Called substringOutcome soughtValues (call (some k) t pg (l ∷ n ∷ [])) r after) (answers : Given (substringOutcome r)) where
   told : substringOutcome r ≡ gives (substringValues k (mappingOf t) (l .text) (n .text))
   told = go (substringOutcome r) refl answers
     where
@@ -184,14 +185,14 @@ module _ {k : Collation} {t : Table} {l n : Lent} {r : Sought} {after : List (Li
   substring-same text a b c d e = run-same (substring-hit text a b c d .0 e)
 
 -- an empty first text is found at 0, 0, 0, 0
-pub substring-empty : {k : Collation} {t : Table} {buffer : List ℕ} {n : Lent} {r : Sought} {after : List (List ℕ)}
-    → Called substringOutcome soughtValues (call (some k) t (lent [] buffer ∷ n ∷ [])) r after → Given (substringOutcome r)
+pub substring-empty : {k : Collation} {t : Table} {pg : Pages} {buffer : List ℕ} {n : Lent} {r : Sought} {after : List (List ℕ)}
+    → Called substringOutcome soughtValues (call (some k) t pg (lent [] buffer ∷ n ∷ [])) r after → Given (substringOutcome r)
     → r ≡ Found (record { 0 = 0 }) (record { 0 = 0 }) (record { 0 = 0 }) (record { 0 = 0 })
 substring-empty {k} {t} {n} {r} h answers = match-empty k (mappingOf t) (n .text) r (told h answers)
 
 -- under collation 3, in a valid text
-module _ {t : Table} {l n : Lent} {r : Sought} {after : List (List ℕ)}
-    (h : Called substringOutcome soughtValues (call (some UnicodeCasemap) t (l ∷ n ∷ [])) r after)
+module _ {t : Table} {pg : Pages} {l n : Lent} {r : Sought} {after : List (List ℕ)}
+    (h : Called substringOutcome soughtValues (call (some UnicodeCasemap) t pg (l ∷ n ∷ [])) r after)
     (answers : Given (substringOutcome r))
     (text : 0 < length (l .text)) {a b : KeyPosition} {c d : TextPosition} (e : r ≡ Found a b c d)
     {chs : List Character} (valid : characters (n .text) ≡ some chs) where

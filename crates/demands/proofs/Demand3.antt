@@ -29,6 +29,7 @@ use Rattle.decompose.specs.Levels.{Unfolds}
 use Rattle.decompose.proofs.Unfolds.{unfolds-unique, steps-unique}
 use Rattle.decompose.proofs.Demand3.{accepted-exactly, accepted-level, accepted-lookups, accepted-key, accepted-steps}
 use Rattle.keys.specs.declared.Summary.{Summary}
+use Rattle.pages.specs.Pages.{Pages}
 use Rattle.prepare.specs.Calls.{Lent, Call, call, Called}
 use Rattle.prepare.specs.Preparing.{preparationOutcome, shownKey, Prepares}
 use Rattle.prepare.specs.declared.Preparation.{Preparation}
@@ -93,7 +94,7 @@ bounds-attained = widest-attains
 -- steps and, where it is a call of its own, reports exactly as many lookups as they make."
 
 -- a call of its own is `prepare`
-module _ {t : Table} {l : Lent} {r : Preparation} {after : List ℕ} (h : Prepares (call (some UnicodeCasemap) t (l ∷ [])) r after)
+module _ {t : Table} {pg : Pages} {l : Lent} {r : Preparation} {after : List ℕ} (h : Prepares (call (some UnicodeCasemap) t pg (l ∷ [])) r after)
     {chs : List Character} (valid : characters (l .text) ≡ some chs) where
   -- a valid text that was prepared: its count, its key's length and the key that is shown are those of the published steps
   pub prepare-exact : (s : Summary) → r ≡ Prepared s → Exact (mappingOf t) chs s (shownKey r (l .text) after)
@@ -109,9 +110,9 @@ module _ {t : Table} {l : Lent} {r : Preparation} {after : List ℕ} (h : Prepar
 
 -- any call on two texts prepares both: `equal`, `order` and `substring`, whose contracts are `Called` with their outcome and
 -- values
-module _ {R : Type 0} {outcome : R → Outcome} {values : Call → Option (List ℕ)} {t : Table} {l n : Lent} {r : R}
+module _ {R : Type 0} {outcome : R → Outcome} {values : Call → Option (List ℕ)} {t : Table} {pg : Pages} {l n : Lent} {r : R}
     {one two : List ℕ}
-    (h : Called outcome values (call (some UnicodeCasemap) t (l ∷ n ∷ [])) r (one ∷ two ∷ [])) where
+    (h : Called outcome values (call (some UnicodeCasemap) t pg (l ∷ n ∷ [])) r (one ∷ two ∷ [])) where
   -- not refused, it leaves in each buffer whose text is valid the key of the published steps, over what was there
   pub compare-exact-first : Given (outcome r) → (chs : List Character) → characters (l .text) ≡ some chs
       → KeyLeft (mappingOf t) chs (l .buffer) one
@@ -127,27 +128,27 @@ module _ {R : Type 0} {outcome : R → Outcome} {values : Call → Option (List 
 
   -- refused with 8 it names the first text or the second
   pub compare-short-place : (x : Refusal) → outcome r ≡ refused x → x .number ≡ 8 → (x .place ≡ 1) ⊎ (x .place ≡ 2)
-  compare-short-place x e eight = ⊎-map (λ p. p .1) (λ p. p .1) (room-places t l n x (eight-room h x e eight))
+  compare-short-place x e eight = ⊎-map (λ p. p .1) (λ p. p .1) (room-places t pg l n x (eight-room h x e eight))
 
   -- and that one's key's length, if the text is valid; the buffer is shorter
   pub compare-short-first : (x : Refusal) → outcome r ≡ refused x → x .number ≡ 8 → x .place ≡ 1
       → (chs : List Character) → characters (l .text) ≡ some chs → Short (mappingOf t) chs 1 (l .buffer) x
   compare-short-first x e eight place chs valid =
       room-short t (eight-accepted h x e eight) l chs valid 1 x
-      (at-first t l n x (room-places t l n x (eight-room h x e eight)) place)
+      (at-first t pg l n x (room-places t pg l n x (eight-room h x e eight)) place)
 
   pub compare-short-second : (x : Refusal) → outcome r ≡ refused x → x .number ≡ 8 → x .place ≡ 2
       → (chs : List Character) → characters (n .text) ≡ some chs → Short (mappingOf t) chs 2 (n .buffer) x
   compare-short-second x e eight place chs valid =
       room-short t (eight-accepted h x e eight) n chs valid 2 x
-      (at-second t l n x (room-places t l n x (eight-room h x e eight)) place)
+      (at-second t pg l n x (room-places t pg l n x (eight-room h x e eight)) place)
 
 -- the same of `prepare`, whose place is 1
-pub prepare-short : {t : Table} {l : Lent} {r : Preparation} {after : List ℕ}
-    → Prepares (call (some UnicodeCasemap) t (l ∷ [])) r after
+pub prepare-short : {t : Table} {pg : Pages} {l : Lent} {r : Preparation} {after : List ℕ}
+    → Prepares (call (some UnicodeCasemap) t pg (l ∷ [])) r after
     → {chs : List Character} → characters (l .text) ≡ some chs
     → (x : Refusal) → r ≡ PrepareRefused x → x .number ≡ 8 → Short (mappingOf t) chs 1 (l .buffer) x
-prepare-short {t} {l} h {chs} valid x e eight =
+prepare-short {t} {pg} {l} h {chs} valid x e eight =
     let told = ap preparationOutcome e in
     room-short t (eight-accepted (h .call) x told eight) l chs valid 1 x
     (sym (orElse-none _) ∙ eight-room (h .call) x told eight)

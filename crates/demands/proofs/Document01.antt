@@ -31,7 +31,9 @@ use Rattle.keys.specs.declared.Summary.{Summary}
 use Rattle.keys.proofs.Bounds.{key-most}
 use Rattle.keys.proofs.Collations.{summary-valid}
 use Rattle.keys.proofs.Injective.{truth-inj}
+use Rattle.pages.specs.Pages.{Pages}
 use Rattle.prepare.specs.Calls.{Lent, Call, call, preparedIn, lengthChecks, roomChecks, callRefusal, keyedAll, Called}
+use Rattle.prepare.specs.Calls.{pagesCheck}
 use Rattle.prepare.specs.Preparing.{shownKey, Prepares}
 use Rattle.prepare.specs.declared.Preparation.the-variants.{Prepared, Refused}
 use Rattle.occurrence.specs.Occurrence.{occurrence}
@@ -90,8 +92,8 @@ steps-append m s t = steps-give-append m s t
 -- ---- "Preparation reports it, and whether the text is valid (always so under collations 1 and 2). It is 0 for an invalid
 -- text and under collations 1 and 2."
 
-module _ {k : Collation} {t : Table} {l : Lent} {s : Summary} {after : List ℕ}
-    (h : Prepares (call (some k) t (l ∷ [])) (Prepared s) after) where
+module _ {k : Collation} {t : Table} {pg : Pages} {l : Lent} {s : Summary} {after : List ℕ}
+    (h : Prepares (call (some k) t pg (l ∷ [])) (Prepared s) after) where
   octets-numbers : readsTable k ≡ false → (s .valid ≡ true) × (s .lookups ≡ 0)
   octets-numbers unread = go k unread (numbers-are h refl)
     where
@@ -153,22 +155,22 @@ scalar-words = scalar-exactly
 
 -- ---- "Collations 1 and 2 don't read the table."
 
-module _ (k : Collation) (unread : readsTable k ≡ false) (t u : Table) (ls : List Lent) where
+module _ (k : Collation) (unread : readsTable k ≡ false) (t u : Table) (pg : Pages) (ls : List Lent) where
   -- over another table the refusal is the same
-  pub unread-refusal : callRefusal (call (some k) t ls) ≡ callRefusal (call (some k) u ls)
+  pub unread-refusal : callRefusal (call (some k) t pg ls) ≡ callRefusal (call (some k) u pg ls)
   unfolding callRefusal
   unread-refusal = go k unread
     where
-      go : (j : Collation) → readsTable j ≡ false → callRefusal (call (some j) t ls) ≡ callRefusal (call (some j) u ls)
+      go : (j : Collation) → readsTable j ≡ false → callRefusal (call (some j) t pg ls) ≡ callRefusal (call (some j) u pg ls)
       go Octet e = refl
       go AsciiCasemap e = refl
       go UnicodeCasemap e = let z : _≡_ {A = ℕ} 0 1 = cc in absurd (omega arith)
 
   -- and so are the texts prepared, by which `prepare`, `equal` and `order` answer and every call fills its buffers
-  pub unread-keys : preparedIn (call (some k) t ls) ≡ preparedIn (call (some k) u ls)
+  pub unread-keys : preparedIn (call (some k) t pg ls) ≡ preparedIn (call (some k) u pg ls)
   unread-keys = go k unread
     where
-      go : (j : Collation) → readsTable j ≡ false → preparedIn (call (some j) t ls) ≡ preparedIn (call (some j) u ls)
+      go : (j : Collation) → readsTable j ≡ false → preparedIn (call (some j) t pg ls) ≡ preparedIn (call (some j) u pg ls)
       go Octet e = refl
       go AsciiCasemap e = refl
       go UnicodeCasemap e = let z : _≡_ {A = ℕ} 0 1 = cc in absurd (omega arith)
@@ -181,17 +183,17 @@ found-unread AsciiCasemap e m o t n (some i) = refl
 found-unread UnicodeCasemap e m o t n (some i) = let z : _≡_ {A = ℕ} 0 1 = cc in absurd (omega arith)
 
 -- and so is what `substring` answers
-pub unread-sought : (k : Collation) → readsTable k ≡ false → (t u : Table) (l n : Lent)
-    → soughtValues (call (some k) t (l ∷ n ∷ [])) ≡ soughtValues (call (some k) u (l ∷ n ∷ []))
+pub unread-sought : (k : Collation) → readsTable k ≡ false → (t u : Table) (pg : Pages) (l n : Lent)
+    → soughtValues (call (some k) t pg (l ∷ n ∷ [])) ≡ soughtValues (call (some k) u pg (l ∷ n ∷ []))
 unfolding substringValues
-unread-sought Octet e t u l n =
+unread-sought Octet e t u pg l n =
     ap (λ (vs : List ℕ). some (cond (empty (l .text)) (1 ∷ 0 ∷ 0 ∷ 0 ∷ 0 ∷ []) vs))
     (found-unread Octet e (mappingOf t) (mappingOf u) (n .text) (length (l .text)) (occurrence (l .text) (n .text)))
-unread-sought AsciiCasemap e t u l n =
+unread-sought AsciiCasemap e t u pg l n =
     let s = map upper (l .text) in
     ap (λ (vs : List ℕ). some (cond (empty (l .text)) (1 ∷ 0 ∷ 0 ∷ 0 ∷ 0 ∷ []) vs))
     (found-unread AsciiCasemap e (mappingOf t) (mappingOf u) (n .text) (length s) (occurrence s (map upper (n .text))))
-unread-sought UnicodeCasemap e t u l n = let z : _≡_ {A = ℕ} 0 1 = cc in absurd (omega arith)
+unread-sought UnicodeCasemap e t u pg l n = let z : _≡_ {A = ℕ} 0 1 = cc in absurd (omega arith)
 
 -- ---- "On refusal .. a shown key is empty, and every other field of the answer is 0."
 
@@ -231,10 +233,12 @@ module _ (k : Collation) (t : Table) (ok : tableUnder k t ≡ none) where
   lengths-none place [] h = refl
   lengths-none place (l ∷ ls) h = rw (le-ltb textMost (length (l .text)) (h .0 .0)) (lengths-none (suc place) ls (h .1))
 
-  -- texts of at most 4,096 octets with buffers of 128 times their lengths are refused by nothing, whatever their octets are
-  pub content-unrefused : (ls : List Lent) → EachRoomy ls → callRefusal (call (some k) t ls) ≡ none
+  -- texts of at most 4,096 octets with buffers of 128 times their lengths are refused by nothing, whatever their octets are,
+  -- where 15 doesn't apply either
+  pub content-unrefused : (pg : Pages) (ls : List Lent) → pagesCheck (some k) pg ≡ none → EachRoomy ls
+      → callRefusal (call (some k) t pg ls) ≡ none
   unfolding callRefusal
-  content-unrefused ls h = rw (lengths-none 1 ls h, ok, rooms-none 1 ls h)
+  content-unrefused pg ls long h = rw (lengths-none 1 ls h, ok, long, rooms-none 1 ls h)
 
 -- ================================================================ Lines of UnicodeData.txt
 

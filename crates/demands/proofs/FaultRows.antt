@@ -26,7 +26,7 @@ pub record Renders (c : Option Refusal) (f : Fault) : Type 0 where
   pub exactly : (d : ℕ) → (c ≡ some (refusal (f .number) 0 d)) ↔ f .applies d
 
 -- what a refusal is
-some-same : (x y : Refusal) → some x ≡ some y → x ≡ y
+pub some-same : (x y : Refusal) → some x ≡ some y → x ≡ y
 some-same x y e = cc
 
 detail-of : {n m d e : ℕ} → refusal n 0 d ≡ refusal m 0 e → d ≡ e

@@ -11,19 +11,21 @@ use lib.Dec.{ltb}
 use lib.ListN.{length}
 use borrow.Author.Tests.{ltb-true, ltb-false, lt-ltb, le-ltb}
 use Rattle.terms.specs.Lists.{orElse}
-use Rattle.terms.specs.Refusals.{refusal, first}
+use Rattle.terms.specs.Refusals.{refusal, check, first}
 use Rattle.terms.specs.declared.Collation.{Collation}
 use Rattle.terms.specs.declared.Collation.the-variants.{Octet, AsciiCasemap, UnicodeCasemap}
 use Rattle.terms.specs.declared.Refusal.{Refusal}
 use Rattle.terms.proofs.Tests.{none-some}
 use Rattle.decompose.specs.TableCheck.{tableRefusal}
-use Rattle.prepare.specs.Calls.{tableCheck}
+use Rattle.pages.specs.Pages.{shortPages}
+use Rattle.prepare.specs.Calls.{lookupCheck, pagesUnder}
 use Rattle.lists.specs.Names.{namesIn, listFault}
 use Rattle.storing.specs.Rooms.{arraysCheck}
 use Rattle.lists.specs.Lists.{ListsCall, allKeys, namesChecks, listsRefusal}
-use Rattle.lists.proofs.Sharing.{refused-table, refused-rooms}
+use Rattle.lists.proofs.Sharing.{refused-lookup, refused-rooms}
 use Rattle.demands.specs.Lists.{Names, Listed, ListsRefused, number-1, first-11-to-13, second-11-to-13, first-14}
-use Rattle.demands.specs.Lists.{second-14, number-3-to-7, store-8, array-8}
+use Rattle.demands.specs.Lists.{second-14, number-3-to-7, number-15, store-8, array-8}
+use Rattle.demands.proofs.Numbers.{short-exactly}
 use Rattle.demands.proofs.ListFaults.{names-are, faulty-is, names-there, faulty-there}
 
 some-same : {x y : Refusal} → some x ≡ some y → x ≡ y
@@ -79,7 +81,9 @@ module _ (c : ListsCall) where
         le-ltb 1024 (length (namesIn (c .firstList))) (omega (arith, ap length (a .0))),
         lt-ltb 1024 (length (namesIn (c .secondList))) (omega (arith, ap length (b .0))),
       )
-  refused-words x (number-3-to-7 ts us y l k t) = refused-table c (passes l) (rw k t)
+  refused-words x (number-3-to-7 ts us y l k t) = refused-lookup c (passes l) (rw (k, t) refl)
+  refused-words x (number-15 ts us l k t s) =
+      refused-lookup c (passes l) (rw (k, t, short-exactly (c .pages) .1 s) refl)
   refused-words x (store-8 ts us l t s) =
       refused-rooms c (passes l) t ∙ rw (lt-ltb (length (c .store)) (length (allKeys c)) s)
   refused-words x (array-8 ts us l t s a) =
@@ -106,7 +110,7 @@ module _ (c : ListsCall) where
       ((listsRefusal c ≡ none) × Listed c (namesIn (c .firstList)) (namesIn (c .secondList))) ⊎ ((x : Refusal) × ListsRefused c x)
 
   module _ (l : Listed c (namesIn (c .firstList)) (namesIn (c .secondList))) where
-    arrays-decided : tableCheck (c .collation) (c .table) ≡ none → length (allKeys c) ≤ length (c .store)
+    arrays-decided : lookupCheck (c .collation) (c .table) (c .pages) ≡ none → length (allKeys c) ≤ length (c .store)
         → (a b : Bool)
         → ltb (length (c .partners)) (length (namesIn (c .firstList))) ≡ a
         → ltb (length (c .positions)) (length (namesIn (c .firstList))) ≡ b
@@ -124,7 +128,7 @@ module _ (c : ListsCall) where
     arrays-decided t s false false e f =
         inl (refused-rooms c (passes l) t ∙ rw (le-ltb (length (c .store)) (length (allKeys c)) s, e, f), l)
 
-    store-decided : tableCheck (c .collation) (c .table) ≡ none → (b : Bool) → ltb (length (c .store)) (length
+    store-decided : lookupCheck (c .collation) (c .table) (c .pages) ≡ none → (b : Bool) → ltb (length (c .store)) (length
         (allKeys c)) ≡ b → Decided
     store-decided t true e =
         inr
@@ -136,21 +140,33 @@ module _ (c : ListsCall) where
         refl
         refl
 
-    table-decided : (o : Option Refusal) → tableCheck (c .collation) (c .table) ≡ o → Decided
-    table-decided (some x) e =
-        inr (
-          x,
-          number-3-to-7 (namesIn (c .firstList)) (namesIn (c .secondList)) x l (reads (l .collation) (l .known) e .0)
-              (reads (l .collation) (l .known) e .1),
-        )
+    -- only collation 3 reads the table and the pages
+    reads : (k : Collation) → c .collation ≡ some k → (x : Refusal) → lookupCheck (c .collation) (c .table) (c .pages) ≡ some x
+        → (c .collation ≡ some UnicodeCasemap)
+        × (orElse (tableRefusal (c .table)) (pagesUnder UnicodeCasemap (c .pages)) ≡ some x)
+    reads Octet f x t = absurd (none-some x (rw f at t))
+    reads AsciiCasemap f x t = absurd (none-some x (rw f at t))
+    reads UnicodeCasemap f x t = (f, rw f at t)
+
+    lookup-refused : (x : Refusal) → c .collation ≡ some UnicodeCasemap → (o : Option Refusal) → tableRefusal (c .table) ≡ o
+        → orElse o (pagesUnder UnicodeCasemap (c .pages)) ≡ some x → Decided
+    lookup-refused x k (some y) t e =
+        inr (y, number-3-to-7 (namesIn (c .firstList)) (namesIn (c .secondList)) y l k t)
+    lookup-refused x k none t e = go (shortPages (c .pages)) refl e
       where
-        -- only collation 3 reads the table
-        reads : (k : Collation) → c .collation ≡ some k → tableCheck (c .collation) (c .table) ≡ some x
-            → (c .collation ≡ some UnicodeCasemap) × (tableRefusal (c .table) ≡ some x)
-        reads Octet f t = absurd (none-some x (rw f at t))
-        reads AsciiCasemap f t = absurd (none-some x (rw f at t))
-        reads UnicodeCasemap f t = (f, rw f at t)
-    table-decided none e = store-decided e (ltb (length (c .store)) (length (allKeys c))) refl
+        go : (b : Bool) → shortPages (c .pages) ≡ b → check b 15 0 0 ≡ some x → Decided
+        go true short f =
+            inr (
+              refusal 15 0 0,
+              number-15 (namesIn (c .firstList)) (namesIn (c .secondList)) l k t (short-exactly (c .pages) .0 short),
+            )
+        go false short f = absurd (none-some x f)
+
+    lookup-decided : (o : Option Refusal) → lookupCheck (c .collation) (c .table) (c .pages) ≡ o → Decided
+    lookup-decided (some x) e =
+        let read = reads (l .collation) (l .known) x e in
+        lookup-refused x (read .0) (tableRefusal (c .table)) refl (read .1)
+    lookup-decided none e = store-decided e (ltb (length (c .store)) (length (allKeys c))) refl
 
   module _ (k : Collation) (e : c .collation ≡ some k) where
     counts-decided : Names (c .firstList) 0 (namesIn (c .firstList)) → Names (c .secondList) 0 (namesIn (c .secondList))
@@ -166,7 +182,7 @@ module _ (c : ListsCall) where
           second-14 k (namesIn (c .firstList)) (namesIn (c .secondList)) e n m (ltb-false _ _ f) (ltb-true _ _ g),
         )
     counts-decided n m false false f g =
-        table-decided
+        lookup-decided
         (record {
           collation = k;
           known = e;
@@ -175,7 +191,7 @@ module _ (c : ListsCall) where
           firstMost = ltb-false 1024 (length (namesIn (c .firstList))) f;
           secondMost = ltb-false 1024 (length (namesIn (c .secondList))) g;
         })
-        (tableCheck (c .collation) (c .table))
+        (lookupCheck (c .collation) (c .table) (c .pages))
         refl
 
     second-decided : listFault (c .firstList) ≡ none → (o : Option Refusal) → listFault (c .secondList) ≡ o → Decided
@@ -208,7 +224,7 @@ module _ (c : ListsCall) where
       go (inl f) = absurd (none-some x (sym (f .0) ∙ e))
       go (inr w) = let same : w .0 ≡ x = some-same (sym (refused-words (w .0) (w .1)) ∙ e) in rw (← same) (w .1)
 
-  -- a call without a refusal: the collation is known, both are lists of at most 1,024 names, and the table passes
+  -- a call without a refusal: the collation is known, both are lists of at most 1,024 names, and table and pages pass
   pub unrefused-listed : listsRefusal c ≡ none → Listed c (namesIn (c .firstList)) (namesIn (c .secondList))
   unrefused-listed e = go (decided (c .collation) refl)
     where

@@ -4,7 +4,7 @@ use mathlib.Core.Path.{_≡_, refl, sym, ap, _∙_}
 use Prim.Native.Nat.{ℕ, _≤_, _<_}
 use native.Mathlib.Omega.{arith}
 use mathlib.Core.Logic.{inl, inr, _↔_}
-use mathlib.Core.Bool.{Bool, true, false, cond, not}
+use mathlib.Core.Bool.{Bool, true, false, cond, not, _&&_, true≢false}
 use mathlib.Core.Option.{Option, none, some}
 use mathlib.Core.List.{List, [], _∷_}
 use lib.Dec.{ltb}
@@ -12,7 +12,7 @@ use lib.ListN.{length}
 use borrow.Author.Tests.{ltb-true, lt-ltb, le-ltb, ne-eqb}
 use Rattle.terms.specs.Collations.{collationOf, readsTable}
 use Rattle.terms.specs.Lists.{orElse, lowest, there}
-use Rattle.terms.specs.Refusals.{textMost, refusal, check}
+use Rattle.terms.specs.Refusals.{textMost, pagesMost, refusal, check}
 use Rattle.terms.specs.declared.Collation.{Collation}
 use Rattle.terms.specs.declared.Collation.the-variants.{UnicodeCasemap}
 use Rattle.terms.specs.declared.Refusal.{Refusal}
@@ -22,10 +22,13 @@ use Rattle.table.specs.Layout.{entryCount}
 use Rattle.table.specs.Table.{Table, faultySize, faultyCode, faultyNumber, entryFault, refusedAt, formRefusal, mappingOf}
 use Rattle.decompose.specs.TableCheck.{levelFault, tableRefusal}
 use Rattle.keys.specs.Keys.{prepared, roomFor}
+use Rattle.pages.specs.Pages.{Pages, shortPages}
 use Rattle.prepare.specs.Calls.{Lent, Call, call, lengths, preparedIn, collationCheck, lengthCheck, lengthChecks}
-use Rattle.prepare.specs.Calls.{textsRefusal, tableCheck, readyRefusal, roomChecks, roomRefusal, callRefusal}
-use Rattle.prepare.proofs.CallRefusals.{callRefusal-ready}
-use Rattle.demands.specs.Demands.{CollationNumber}
+use Rattle.prepare.specs.Calls.{textsRefusal, tableCheck, pagesCheck, pagesUnder, lookupCheck, readyRefusal, roomChecks, roomRefusal, callRefusal}
+use Rattle.prepare.proofs.CallRefusals.{callRefusal-ready, callRefusal-refused}
+use Rattle.demands.specs.Demands.{CollationNumber, ShortPages}
+use Rattle.demands.proofs.Reflect.{ltb-exactly, or-exactly}
+use Rattle.demands.proofs.FaultRows.{some-same}
 use Rattle.demands.proofs.Rows.{callRefusal-row, Every, every-none, every-some, every-check, every-else, every-length}
 use Rattle.demands.proofs.Rows.{every-room}
 
@@ -69,6 +72,11 @@ numbers-under (some k) t = go (readsTable k)
     go true = numbers-table t
     go false = every-none (Between 3 7)
 
+-- 15
+numbers-pages : (o : Option Collation) (pg : Pages) → Numbers 15 15 (pagesCheck o pg)
+numbers-pages none pg = every-none (Between 15 15)
+numbers-pages (some k) pg = every-check (Between 15 15) (readsTable k && shortPages pg) 15 0 0 (omega arith, omega arith)
+
 -- a refusal with another number than the first check gives comes from the second
 numbers-past : {low high : ℕ} {c : Option Refusal} → Numbers low high c → (d : Option Refusal) (x : Refusal)
     → (low ≤ x .number → x .number ≤ high → ⊥) → orElse c d ≡ some x → d ≡ some x
@@ -82,7 +90,7 @@ numbers-wider n a b p q x e = let bounds = n x e in (omega arith, omega arith)
 module _ (c : Call) where
   -- the checks after each number
   abbrev after-lengths : Option Refusal
-  after-lengths = orElse (tableCheck (c .collation) (c .table)) (roomRefusal c)
+  after-lengths = orElse (lookupCheck (c .collation) (c .table) (c .pages)) (roomRefusal c)
 
   abbrev after-collation : Option Refusal
   after-collation = orElse (lengthChecks 1 (lengths c)) after-lengths
@@ -93,46 +101,114 @@ module _ (c : Call) where
   numbers-room : Numbers 8 8 (roomRefusal c)
   numbers-room = every-room (Between 8 8) 1 (c .lents) (preparedIn c) (λ q d l. (omega arith, omega arith))
 
-  numbers-later : Numbers 3 8 after-lengths
+  numbers-later : Numbers 3 15 after-lengths
   numbers-later =
-      every-else (Between 3 8) (tableCheck (c .collation) (c .table)) (roomRefusal c)
-      (numbers-wider (numbers-under (c .collation) (c .table)) 3 8 (omega arith) (omega arith))
-      (numbers-wider numbers-room 3 8 (omega arith) (omega arith))
+      every-else (Between 3 15) (lookupCheck (c .collation) (c .table) (c .pages)) (roomRefusal c)
+      (every-else (Between 3 15) (tableCheck (c .collation) (c .table)) (pagesCheck (c .collation) (c .pages))
+      (numbers-wider (numbers-under (c .collation) (c .table)) 3 15 (omega arith) (omega arith))
+      (numbers-wider (numbers-pages (c .collation) (c .pages)) 3 15 (omega arith) (omega arith)))
+      (numbers-wider numbers-room 3 15 (omega arith) (omega arith))
 
   -- a call that is refused with 8 is refused for a key's room
   pub eight-rooms : (x : Refusal) → callRefusal c ≡ some x → x .number ≡ 8 → roomRefusal c ≡ some x
   eight-rooms x e n =
-      numbers-past (numbers-under (c .collation) (c .table)) (roomRefusal c) x (λ a b. omega arith)
-      (numbers-past (numbers-lengths 1 (lengths c)) after-lengths x (λ a b. omega arith)
-      (numbers-past numbers-one after-collation x (λ a b. omega arith) (sym (callRefusal-row c) ∙ e)))
+      let pages = pagesCheck (c .collation) (c .pages) in
+      numbers-past (numbers-pages (c .collation) (c .pages)) (roomRefusal c) x (λ a b. omega arith)
+      (numbers-past (numbers-under (c .collation) (c .table)) (orElse pages (roomRefusal c)) x (λ a b. omega arith)
+      (sym (orElse-assoc (tableCheck (c .collation) (c .table)) pages (roomRefusal c))
+      ∙ numbers-past (numbers-lengths 1 (lengths c)) after-lengths x (λ a b. omega arith)
+      (numbers-past numbers-one after-collation x (λ a b. omega arith) (sym (callRefusal-row c) ∙ e))))
+
+  -- it passed 1 to 7 and 15
+  pub eight-ready : (x : Refusal) → callRefusal c ≡ some x → x .number ≡ 8 → readyRefusal c ≡ none
+  eight-ready x e n = go (readyRefusal c) refl
+    where
+      other : Every (λ (y : Refusal). y .number ≡ 8 → ⊥) (readyRefusal c)
+      other =
+          let apart : Refusal → Type 0 = λ y. y .number ≡ 8 → ⊥ in
+          every-else apart (textsRefusal (c .collation) (lengths c)) (lookupCheck (c .collation) (c .table) (c .pages))
+          (every-else apart (collationCheck (c .collation)) (lengthChecks 1 (lengths c))
+          (λ y f m. omega (arith, numbers-one y f .1)) (λ y f m. omega (arith, numbers-lengths 1 (lengths c) y f .1)))
+          (every-else apart (tableCheck (c .collation) (c .table)) (pagesCheck (c .collation) (c .pages))
+          (λ y f m. omega (arith, numbers-under (c .collation) (c .table) y f .1))
+          (λ y f m. omega (arith, numbers-pages (c .collation) (c .pages) y f .0)))
+
+      go : (o : Option Refusal) → readyRefusal c ≡ o → readyRefusal c ≡ none
+      go none f = f
+      go (some y) f =
+          let same : y ≡ x = some-same y x (sym (callRefusal-refused c y f) ∙ e) in
+          absurd (other y f (ap (λ (z : Refusal). z .number) same ∙ n))
+
+  -- and one that is refused with another number did not
+  pub other-refused : (x : Refusal) → callRefusal c ≡ some x → (x .number ≡ 8 → ⊥) → readyRefusal c ≡ some x
+  other-refused x e n = go (readyRefusal c) refl
+    where
+      go : (o : Option Refusal) → readyRefusal c ≡ o → readyRefusal c ≡ some x
+      go none f =
+          let bounds = numbers-room x (sym (callRefusal-ready c f) ∙ e) in
+          absurd (n (omega (arith, bounds .0, bounds .1)))
+      go (some y) f = f ∙ sym (callRefusal-refused c y f) ∙ e
 
 -- a call under collation 3 that is refused with 8 has an accepted table
-pub eight-table : (t : Table) (ls : List Lent) (x : Refusal) → callRefusal (call (some UnicodeCasemap) t ls) ≡ some x
+pub eight-table : (t : Table) (pg : Pages) (ls : List Lent) (x : Refusal) → callRefusal (call (some UnicodeCasemap) t pg ls) ≡ some x
     → x .number ≡ 8
     → tableRefusal t ≡ none
-eight-table t ls x e n =
-    let c : Call = call (some UnicodeCasemap) t ls in
+eight-table t pg ls x e n =
+    let c : Call = call (some UnicodeCasemap) t pg ls in
     go (tableRefusal t) refl
     (numbers-past (numbers-lengths 1 (lengths c)) (after-lengths c) x (λ a b. omega arith)
     (numbers-past (numbers-one c) (after-collation c) x (λ a b. omega arith) (sym (callRefusal-row c) ∙ e)))
   where
-    go : (o : Option Refusal) → tableRefusal t ≡ o → orElse o (roomRefusal (call (some UnicodeCasemap) t ls)) ≡ some x
+    go : (o : Option Refusal) → tableRefusal t ≡ o
+        → orElse (orElse o (pagesUnder UnicodeCasemap pg)) (roomRefusal (call (some UnicodeCasemap) t pg ls)) ≡ some x
         → tableRefusal t ≡ none
     go none q h = q
     go (some y) q h = let is : y ≡ x = cc in absurd (omega (arith, numbers-table t x (q ∙ ap some is) .1, n))
 
 -- a refusal of the table is that of a call under collation 3 exactly where 1 and 2 are passed
-pub table-exactly : (t : Table) (ls : List Lent)
-    → textsRefusal (some UnicodeCasemap) (lengths (call (some UnicodeCasemap) t ls)) ≡ none
-    → (x : Refusal) → x .number ≤ 7 → (callRefusal (call (some UnicodeCasemap) t ls) ≡ some x) ↔ (tableRefusal t ≡ some x)
+pub table-exactly : (t : Table) (pg : Pages) (ls : List Lent)
+    → textsRefusal (some UnicodeCasemap) (lengths (call (some UnicodeCasemap) t pg ls)) ≡ none
+    → (x : Refusal) → x .number ≤ 7 → (callRefusal (call (some UnicodeCasemap) t pg ls) ≡ some x) ↔ (tableRefusal t ≡ some x)
 unfolding callRefusal
-table-exactly t ls passed x few =
-    let c : Call = call (some UnicodeCasemap) t ls in
+table-exactly t pg ls passed x few =
+    let c : Call = call (some UnicodeCasemap) t pg ls in
     rw passed (go c (tableRefusal t))
   where
-    go : (c : Call) (o : Option Refusal) → (orElse o (roomRefusal c) ≡ some x) ↔ (o ≡ some x)
-    go c none = (λ e. absurd (omega (arith, numbers-room c x e .0, few)), λ e. absurd (none-some x e))
+    go : (c : Call) (o : Option Refusal)
+        → (orElse (orElse o (pagesUnder UnicodeCasemap pg)) (roomRefusal c) ≡ some x) ↔ (o ≡ some x)
+    go c none = (
+      λ e. absurd (omega (
+        arith,
+        numbers-room c x (numbers-past (numbers-pages (some UnicodeCasemap) pg) (roomRefusal c) x (λ a b. omega arith) e) .0,
+        few,
+      )),
+      λ e. absurd (none-some x e),
+    )
     go c (some y) = (λ e. e, λ e. e)
+
+-- pages are short exactly when one of their slices is
+pub short-exactly : (pg : Pages) → (shortPages pg ≡ true) ↔ ShortPages pg
+short-exactly pg =
+    or-exactly (ltb (length (pg .presence)) pagesMost) (ltb (length (pg .ranks)) pagesMost)
+    (ltb-exactly (length (pg .presence)) pagesMost) (ltb-exactly (length (pg .ranks)) pagesMost)
+
+-- 15 is that of a call under collation 3 exactly where 1 to 7 are passed and a page slice is too short
+pub fifteen-exactly : (t : Table) (pg : Pages) (ls : List Lent)
+    → textsRefusal (some UnicodeCasemap) (lengths (call (some UnicodeCasemap) t pg ls)) ≡ none
+    → tableRefusal t ≡ none
+    → (callRefusal (call (some UnicodeCasemap) t pg ls) ≡ some (refusal 15 0 0)) ↔ ShortPages pg
+unfolding callRefusal
+fifteen-exactly t pg ls passed accepted =
+    let c : Call = call (some UnicodeCasemap) t pg ls in
+    rw (passed, accepted) (go c (shortPages pg) (short-exactly pg))
+  where
+    go : (c : Call) (b : Bool) → (b ≡ true) ↔ ShortPages pg
+        → (orElse (check b 15 0 0) (roomRefusal c) ≡ some (refusal 15 0 0)) ↔ ShortPages pg
+    go c true short = (λ e. short .0 refl, λ h. refl)
+    go c false short = (
+      λ e. absurd (omega (arith, numbers-room c (refusal 15 0 0) e .1)),
+      λ h. absurd (true≢false (sym (short .1 h))),
+    )
 
 -- ---- places
 
@@ -163,63 +239,63 @@ collation-unknown : (k : ℕ) → (CollationNumber k → ⊥) → collationCheck
 collation-unknown k h = rw (ne-eqb k 1 (λ e. h (inl e)), ne-eqb k 2 (λ e. h (inr (inl e))), ne-eqb k 3 (λ e. h (inr (inr e))))
 
 -- 1 exactly when the collation is not one
-pub one-exactly : (k : ℕ) (t : Table) (ls : List Lent)
-    → (callRefusal (call (collationOf k) t ls) ≡ some (refusal 1 0 0)) ↔ (CollationNumber k → ⊥)
-one-exactly k t ls =
-    let c : Call = call (collationOf k) t ls in (
+pub one-exactly : (k : ℕ) (t : Table) (pg : Pages) (ls : List Lent)
+    → (callRefusal (call (collationOf k) t pg ls) ≡ some (refusal 1 0 0)) ↔ (CollationNumber k → ⊥)
+one-exactly k t pg ls =
+    let c : Call = call (collationOf k) t pg ls in (
       λ e known. omega (
         arith,
-        every-else (Between 2 8) (lengthChecks 1 (lengths c)) (after-lengths c)
-            (numbers-wider (numbers-lengths 1 (lengths c)) 2 8 (omega arith) (omega arith))
-            (numbers-wider (numbers-later c) 2 8 (omega arith) (omega arith))
+        every-else (Between 2 15) (lengthChecks 1 (lengths c)) (after-lengths c)
+            (numbers-wider (numbers-lengths 1 (lengths c)) 2 15 (omega arith) (omega arith))
+            (numbers-wider (numbers-later c) 2 15 (omega arith) (omega arith))
             (refusal 1 0 0) (rw (collation-known k known) at (sym (callRefusal-row c) ∙ e)) .0,
       ),
       λ unknown. callRefusal-row c ∙ rw (collation-unknown k unknown),
     )
 
-module _ (k : Collation) (t : Table) where
+module _ (k : Collation) (t : Table) (pg : Pages) where
   -- 2 of the first text exactly when it is too long
   pub two-first : (l : Lent) (ls : List Lent)
-      → (callRefusal (call (some k) t (l ∷ ls)) ≡ some (refusal 2 1 (length (l .text)))) ↔ (textMost < length (l .text))
+      → (callRefusal (call (some k) t pg (l ∷ ls)) ≡ some (refusal 2 1 (length (l .text)))) ↔ (textMost < length (l .text))
   two-first l ls =
-      let c : Call = call (some k) t (l ∷ ls) in
+      let c : Call = call (some k) t pg (l ∷ ls) in
       let rest = after-lengths c in
-      let others = lengthChecks 2 (lengths (call (some k) t ls)) in
+      let others = lengthChecks 2 (lengths (call (some k) t pg ls)) in
       rw (callRefusal-row c, orElse-assoc (lengthCheck 1 (length (l .text))) others rest)
       (here-exactly 2 1 (length (l .text)) textMost (length (l .text)) (orElse others rest)
       (every-else (Beyond 2 1) others rest
-      (every-length (Beyond 2 1) 2 (lengths (call (some k) t ls)) (λ q d l e. omega arith))
+      (every-length (Beyond 2 1) 2 (lengths (call (some k) t pg ls)) (λ q d l e. omega arith))
       (beyond-numbers 2 1 (numbers-later c) (omega arith))))
 
   -- and of the second, where the first is not
   pub two-second : (l n : Lent) → length (l .text) ≤ textMost
-      → (callRefusal (call (some k) t (l ∷ n ∷ [])) ≡ some (refusal 2 2 (length (n .text)))) ↔ (textMost < length (n .text))
+      → (callRefusal (call (some k) t pg (l ∷ n ∷ [])) ≡ some (refusal 2 2 (length (n .text)))) ↔ (textMost < length (n .text))
   two-second l n fits =
-      let c : Call = call (some k) t (l ∷ n ∷ []) in
+      let c : Call = call (some k) t pg (l ∷ n ∷ []) in
       rw (callRefusal-row c, le-ltb textMost (length (l .text)) fits, orElse-none (lengthCheck 2 (length (n .text))))
       (here-exactly 2 2 (length (n .text)) textMost (length (n .text)) (after-lengths c)
       (beyond-numbers 2 2 (numbers-later c) (omega arith)))
 
-  -- 8 of the first text, where 1 to 7 were passed, exactly when its buffer is too short
-  pub eight-first : (l : Lent) (ls : List Lent) → readyRefusal (call (some k) t (l ∷ ls)) ≡ none
+  -- 8 of the first text, where 1 to 7 and 15 were passed, exactly when its buffer is too short
+  pub eight-first : (l : Lent) (ls : List Lent) → readyRefusal (call (some k) t pg (l ∷ ls)) ≡ none
       → let n = roomFor (prepared k (mappingOf t) (l .text)) in
-      (callRefusal (call (some k) t (l ∷ ls)) ≡ some (refusal 8 1 n)) ↔ (length (l .buffer) < n)
+      (callRefusal (call (some k) t pg (l ∷ ls)) ≡ some (refusal 8 1 n)) ↔ (length (l .buffer) < n)
   eight-first l ls ready =
       let n = roomFor (prepared k (mappingOf t) (l .text)) in
-      let others = preparedIn (call (some k) t ls) in
-      rw (callRefusal-ready (call (some k) t (l ∷ ls)) ready)
+      let others = preparedIn (call (some k) t pg ls) in
+      rw (callRefusal-ready (call (some k) t pg (l ∷ ls)) ready)
       (here-exactly 8 1 n (length (l .buffer)) n (roomChecks 2 ls others)
       (every-room (Beyond 8 1) 2 ls others (λ q d l e. omega arith)))
 
   -- and of the second, where the first's is not
-  pub eight-second : (l o : Lent) → readyRefusal (call (some k) t (l ∷ o ∷ [])) ≡ none
+  pub eight-second : (l o : Lent) → readyRefusal (call (some k) t pg (l ∷ o ∷ [])) ≡ none
       → roomFor (prepared k (mappingOf t) (l .text)) ≤ length (l .buffer)
       → let n = roomFor (prepared k (mappingOf t) (o .text)) in
-      (callRefusal (call (some k) t (l ∷ o ∷ [])) ≡ some (refusal 8 2 n)) ↔ (length (o .buffer) < n)
+      (callRefusal (call (some k) t pg (l ∷ o ∷ [])) ≡ some (refusal 8 2 n)) ↔ (length (o .buffer) < n)
   eight-second l o ready fits =
       let n = roomFor (prepared k (mappingOf t) (o .text)) in
       rw (
-        callRefusal-ready (call (some k) t (l ∷ o ∷ [])) ready,
+        callRefusal-ready (call (some k) t pg (l ∷ o ∷ [])) ready,
         le-ltb (length (l .buffer)) (roomFor (prepared k (mappingOf t) (l .text))) fits,
       )
       (here-exactly 8 2 n (length (o .buffer)) n none (λ x e f. absurd (none-some x e)))

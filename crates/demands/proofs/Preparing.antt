@@ -28,6 +28,7 @@ use Rattle.keys.specs.Keys.{PreparedText, unicodePrepared, prepared, keyOf, roo
 use Rattle.keys.specs.Summaries.{summaryNumbers, preparedNumbers}
 use Rattle.keys.specs.declared.Summary.{Summary}
 use Rattle.keys.proofs.Injective.{truth-inj}
+use Rattle.pages.specs.Pages.{Pages}
 use Rattle.prepare.specs.Calls.{Lent, Call, call, preparedIn, roomCheck, roomRefusal, callRefusal, keyedAll, Called}
 use Rattle.prepare.specs.Preparing.{preparationOutcome, shownKey, Prepares}
 use Rattle.prepare.specs.declared.Preparation.{Preparation}
@@ -43,11 +44,11 @@ check-some : (b : Bool) (n p d : ℕ) (x : Refusal) → check b n p d ≡ some x
 check-some true n p d x e = (refl, cc)
 check-some false n p d x e = absurd (none-some x e)
 
-module _ {k : Collation} {t : Table} {l : Lent} {r : Preparation} {after : List ℕ}
-    (h : Prepares (call (some k) t (l ∷ [])) r after)
+module _ {k : Collation} {t : Table} {pg : Pages} {l : Lent} {r : Preparation} {after : List ℕ}
+    (h : Prepares (call (some k) t pg (l ∷ [])) r after)
     {s : Summary} (e : r ≡ Prepared s) where
   -- a text that was prepared was not refused
-  pub unrefused : callRefusal (call (some k) t (l ∷ [])) ≡ none
+  pub unrefused : callRefusal (call (some k) t pg (l ∷ [])) ≡ none
   unrefused = answered-gives (h .call) (summaryNumbers s) (ap preparationOutcome e) .0
 
   -- and its numbers are the prepared text's
@@ -59,11 +60,11 @@ module _ {k : Collation} {t : Table} {l : Lent} {r : Preparation} {after : List 
   shows = shown-key h unrefused
 
 -- a valid text under collation 3
-module _ {t : Table} {l : Lent} {r : Preparation} {after : List ℕ}
-    (h : Prepares (call (some UnicodeCasemap) t (l ∷ [])) r after) where
+module _ {t : Table} {pg : Pages} {l : Lent} {r : Preparation} {after : List ℕ}
+    (h : Prepares (call (some UnicodeCasemap) t pg (l ∷ [])) r after) where
   -- its table was accepted
   pub table-accepted : {s : Summary} → r ≡ Prepared s → tableRefusal t ≡ none
-  table-accepted e = unrefused-table (call (some UnicodeCasemap) t (l ∷ [])) (unrefused h e)
+  table-accepted e = unrefused-table (call (some UnicodeCasemap) t pg (l ∷ [])) (unrefused h e)
 
   module _ {chs : List Character} (valid : characters (l .text) ≡ some chs) where
     prepared-valid : prepared UnicodeCasemap (mappingOf t) (l .text) ≡ unicodePrepared (mappingOf t) (l .text) (some chs)
@@ -105,19 +106,19 @@ module _ {R : Type 0} {outcome : R → Outcome} {values : Call → Option (List 
   given-left g = rw (given-unrefused g) at (h .left)
 
 -- under collation 3
-module _ {R : Type 0} {outcome : R → Outcome} {values : Call → Option (List ℕ)} {t : Table} {ls : List Lent} {r : R}
+module _ {R : Type 0} {outcome : R → Outcome} {values : Call → Option (List ℕ)} {t : Table} {pg : Pages} {ls : List Lent} {r : R}
     {after : List (List ℕ)}
-    (h : Called outcome values (call (some UnicodeCasemap) t ls) r after) where
+    (h : Called outcome values (call (some UnicodeCasemap) t pg ls) r after) where
   -- values were given: its table was accepted
   pub given-accepted : Given (outcome r) → tableRefusal t ≡ none
-  given-accepted g = unrefused-table (call (some UnicodeCasemap) t ls) (given-unrefused h g)
+  given-accepted g = unrefused-table (call (some UnicodeCasemap) t pg ls) (given-unrefused h g)
 
   -- refused with 8: its table was accepted, and a key has no room
   pub eight-accepted : (x : Refusal) → outcome r ≡ refused x → x .number ≡ 8 → tableRefusal t ≡ none
-  eight-accepted x e n = eight-table t ls x (answered-refused h x e) n
+  eight-accepted x e n = eight-table t pg ls x (answered-refused h x e) n
 
-  pub eight-room : (x : Refusal) → outcome r ≡ refused x → x .number ≡ 8 → roomRefusal (call (some UnicodeCasemap) t ls) ≡ some x
-  eight-room x e n = eight-rooms (call (some UnicodeCasemap) t ls) x (answered-refused h x e) n
+  pub eight-room : (x : Refusal) → outcome r ≡ refused x → x .number ≡ 8 → roomRefusal (call (some UnicodeCasemap) t pg ls) ≡ some x
+  eight-room x e n = eight-rooms (call (some UnicodeCasemap) t pg ls) x (answered-refused h x e) n
 
 -- a key buffer with the key of a valid text has that of the published steps
 pub keyed-left : (t : Table) → tableRefusal t ≡ none → (l : Lent) (chs : List Character) → characters (l .text) ≡ some chs
@@ -155,7 +156,7 @@ heads e = cc
 pub seconds : {a b c d : List ℕ} → a ∷ b ∷ [] ≡ c ∷ d ∷ [] → b ≡ d
 seconds e = cc
 
-module _ (t : Table) (l n : Lent) (x : Refusal) where
+module _ (t : Table) (pg : Pages) (l n : Lent) (x : Refusal) where
   abbrev first-room : Option Refusal
   first-room = roomCheck 1 (length (l .buffer)) (prepared UnicodeCasemap (mappingOf t) (l .text))
 
@@ -166,7 +167,7 @@ module _ (t : Table) (l n : Lent) (x : Refusal) where
   abbrev Places : Type 0
   Places = ((first-room ≡ some x) × (x .place ≡ 1)) ⊎ ((second-room ≡ some x) × (x .place ≡ 2))
 
-  pub room-places : roomRefusal (call (some UnicodeCasemap) t (l ∷ n ∷ [])) ≡ some x → Places
+  pub room-places : roomRefusal (call (some UnicodeCasemap) t pg (l ∷ n ∷ [])) ≡ some x → Places
   room-places e = go first-room refl e
     where
       place-of : (place : ℕ) (m : Lent)

@@ -22,6 +22,7 @@ use Rattle.table.specs.Table.{Table, mappingOf}
 use Rattle.keys.specs.Keys.{prepared}
 use Rattle.keys.specs.Summaries.{truth}
 use Rattle.keys.specs.declared.Summary.{Summary}
+use Rattle.pages.specs.Pages.{Pages}
 use Rattle.prepare.specs.Calls.{Lent, call}
 use Rattle.prepare.specs.Preparing.{shownKey, Prepares}
 use Rattle.prepare.specs.declared.Preparation.{Preparation}
@@ -54,15 +55,15 @@ use Rattle.demands.proofs.RecordRuns.{reads-each, reads-from, writes-al
 -- ---- "The archive people want texts and keys in files."
 
 -- every key that a preparation gives can be kept: no record of it is refused with 13 (`write-13`)
-pub prepared-kept : {n : ℕ} {k : Collation} {t : Table} {l : Lent} {r : Preparation} {after : List ℕ}
+pub prepared-kept : {n : ℕ} {k : Collation} {t : Table} {pg : Pages} {l : Lent} {r : Preparation} {after : List ℕ}
     → collationOf n ≡ some k
-    → Prepares (call (some k) t (l ∷ [])) r after
+    → Prepares (call (some k) t pg (l ∷ [])) r after
     → (s : Summary) → r ≡ Prepared s
     → Unfit (ofKey (fieldsFor n (truth (s .valid)) (l .text)) (shownKey r (l .text) after)) → ⊥
-prepared-kept {n} {k} {t} {l} named h s e =
+prepared-kept {n} {k} {t} {pg} {l} named h s e =
     let told = numbers-are h e in
     let flag : truth (prepared k (mappingOf t) (l .text) .valid) ≡ truth (s .valid) = cc in
-    kept-fits n k t l (truth (s .valid)) _ named (unrefused h e) flag (shows h e)
+    kept-fits n k t pg l (truth (s .valid)) _ named (unrefused h e) flag (shows h e)
 
 -- ---- "A record is a four-octet length (of what follows it), a two-octet kind, a body; numbers little-endian. Kind 1 is a text."
 

@@ -31,6 +31,7 @@ use Rattle.decompose.specs.TableCheck.{tableRefusal, tableAnswer, UnfoldsWell, 
 use Rattle.decompose.proofs.SyllableSteps.{syllable-level, syllable-level-one, lookups-syllable, expanded-syllable}
 use Rattle.keys.specs.Keys.{keyOf}
 use Rattle.keys.proofs.Validity.{key-valid}
+use Rattle.pages.specs.Pages.{Pages}
 use Rattle.prepare.specs.Calls.{Lent, call, Called}
 use Rattle.compare.specs.Compare.{equalityOutcome, equalityValues}
 use Rattle.compare.specs.declared.Equality.{Equality}
@@ -104,8 +105,8 @@ syllables-meet t ok own cs e =
     ∙ sym (key-valid m (encodes cs) (asCharacters cs) (characters-encodes cs e))
 
 -- so a call of `equal` on the two answers that they match, where it is not refused
-pub names-meet : {t : Table} {l m : Lent} {r : Equality} {after : List (List ℕ)}
-    → Called equalityOutcome equalityValues (call (some UnicodeCasemap) t (l ∷ m ∷ [])) r after → Given (equalityOutcome r)
+pub names-meet : {t : Table} {pg : Pages} {l m : Lent} {r : Equality} {after : List (List ℕ)}
+    → Called equalityOutcome equalityValues (call (some UnicodeCasemap) t pg (l ∷ m ∷ [])) r after → Given (equalityOutcome r)
     → tableRefusal t ≡ none
     → ((j : ℕ) → 0x1100 ≤ j → j ≤ 0x11C2 → mappingOf t .title j ≡ j)
     → (cs : List ℕ) → all scalar cs ≡ true → l .text ≡ encodes (inJamo cs) → m .text ≡ encodes cs

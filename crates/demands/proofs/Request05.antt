@@ -26,6 +26,7 @@ use Rattle.utf8.proofs.Decode.{decode-nil, decode-first, decode-encode, decode-
 use Rattle.utf8.proofs.Decoders.{characters-at}
 use Rattle.utf8.proofs.Characters.{utf8-decodes}
 use Rattle.table.specs.Table.{Table}
+use Rattle.pages.specs.Pages.{Pages}
 use Rattle.prepare.specs.Calls.{Lent, call, Called}
 use Rattle.search.specs.Covering.{Span, textAt}
 use Rattle.search.specs.Substring.{substringOutcome, soughtValues}
@@ -80,8 +81,8 @@ encoded-as-long-as-said c s =
     decode-announced-at (encode c) 0 _ (ap decode (sym (append-nil (encode c))) ∙ decode-encode c [] s)
 
 -- and so a hit that `substring` reports in a valid text begins with an octet that announces a character, not inside of one
-pub hit-begins-a-character : {t : Table} {l n : Lent} {r : Sought} {after : List (List ℕ)}
-    → Called substringOutcome soughtValues (call (some UnicodeCasemap) t (l ∷ n ∷ [])) r after → Given (substringOutcome r)
+pub hit-begins-a-character : {t : Table} {pg : Pages} {l n : Lent} {r : Sought} {after : List (List ℕ)}
+    → Called substringOutcome soughtValues (call (some UnicodeCasemap) t pg (l ∷ n ∷ [])) r after → Given (substringOutcome r)
     → 0 < length (l .text)
     → {a b : KeyPosition} {c d : TextPosition} → r ≡ Found a b c d
     → {chs : List Character} → characters (n .text) ≡ some chs

@@ -17,6 +17,7 @@ use Rattle.terms.proofs.Checks.{orElse-assoc, first-append}
 use Rattle.terms.proofs.Tests.{none-some}
 use Rattle.keys.specs.Keys.{PreparedText, roomFor}
 use Rattle.prepare.specs.Calls.{Lent, Call, lengths, preparedIn, lengthCheck, lengthChecks, tableCheck, collationCheck}
+use Rattle.prepare.specs.Calls.{pagesCheck, lookupCheck}
 use Rattle.prepare.specs.Calls.{roomCheck, roomChecks, roomRefusal, callRefusal}
 use Rattle.demands.specs.Demands.{FirstApplies, lengthRow, roomRow, callChecks}
 
@@ -53,21 +54,22 @@ first-roomRow place (l ∷ ls) (p ∷ ps) = ap (orElse (roomCheck place (length 
 pub callRefusal-row : (c : Call)
     → callRefusal c
     ≡ orElse (collationCheck (c .collation))
-    (orElse (lengthChecks 1 (lengths c)) (orElse (tableCheck (c .collation) (c .table)) (roomRefusal c)))
+    (orElse (lengthChecks 1 (lengths c)) (orElse (lookupCheck (c .collation) (c .table) (c .pages)) (roomRefusal c)))
 unfolding callRefusal
 callRefusal-row c =
-    orElse-assoc (orElse (collationCheck (c .collation)) (lengthChecks 1 (lengths c))) (tableCheck (c .collation) (c .table))
-    (roomRefusal c)
+    orElse-assoc (orElse (collationCheck (c .collation)) (lengthChecks 1 (lengths c)))
+    (lookupCheck (c .collation) (c .table) (c .pages)) (roomRefusal c)
     ∙ orElse-assoc (collationCheck (c .collation)) (lengthChecks 1 (lengths c)) _
 
 -- is that row's first
 pub first-callChecks : (c : Call) → first (callChecks c) ≡ callRefusal c
 first-callChecks c =
     let table = tableCheck (c .collation) (c .table) in
+    let pages = pagesCheck (c .collation) (c .pages) in
     let rooms = roomRow 1 (c .lents) (preparedIn c) in
     ap (orElse (collationCheck (c .collation)))
-    (first-append (lengthRow 1 (lengths c)) (table ∷ rooms)
-    ∙ rw (first-lengthRow 1 (lengths c), first-roomRow 1 (c .lents) (preparedIn c)))
+    (first-append (lengthRow 1 (lengths c)) (table ∷ pages ∷ rooms)
+    ∙ rw (first-lengthRow 1 (lengths c), first-roomRow 1 (c .lents) (preparedIn c), orElse-assoc table pages (roomRefusal c)))
     ∙ sym (callRefusal-row c)
 
 -- ---- what a check may give

@@ -14,7 +14,7 @@ use Rattle.terms.specs.declared.Collation.{Collation}
 use Rattle.terms.specs.declared.Refusal.{Refusal}
 use Rattle.terms.proofs.Checks.{orElse-assoc, orElse-none}
 use Rattle.terms.proofs.Tests.{none-some}
-use Rattle.prepare.specs.Calls.{tableCheck, collationCheck}
+use Rattle.prepare.specs.Calls.{tableCheck, pagesCheck, collationCheck}
 use Rattle.sorting.specs.KeyOrder.{startOf}
 use Rattle.storing.specs.Ends.{stringAt, faultyEnd, endsRefusal}
 use Rattle.storing.specs.Rooms.{storeCheck, arraysCheck}
@@ -109,6 +109,7 @@ module _ (c : ManyCall) where
       ∷ stringAt 36 (lowest (faultyEnd (length (c .octets)) (c .ends)) (length (c .ends)))
       ∷ stringAt 2 (lowest (longText (c .ends)) (length (c .ends)))
       ∷ tableCheck (c .collation) (c .table)
+      ∷ pagesCheck (c .collation) (c .pages)
       ∷ storeCheck (length (c .store)) (length (joined (manyKeys c)))
       ∷ arraysCheck (length (c .keyEnds)) (length (c .valid)) (length (c .ends))
       ∷ []
@@ -134,8 +135,11 @@ module _ (c : ManyCall) where
               (
                 λ x. (λ e. e, λ e. e),
                 (
-                  room (length (c .store)) (length (joined (manyKeys c))),
-                  (arrays (length (c .keyEnds)) (length (c .valid)) (length (c .ends)), tt),
+                  λ x. (λ e. e, λ e. e),
+                  (
+                    room (length (c .store)) (length (joined (manyKeys c))),
+                    (arrays (length (c .keyEnds)) (length (c .valid)) (length (c .ends)), tt),
+                  ),
                 ),
               ),
             ),

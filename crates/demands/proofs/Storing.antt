@@ -17,6 +17,7 @@ use Rattle.keys.specs.Keys.{upper, unicodePrepared, prepared, roomFor, tableUnd
 use Rattle.keys.specs.Summaries.{truth}
 use Rattle.keys.proofs.Bounds.{key-most}
 use Rattle.terms.proofs.Checks.{orElse-neither, when-none}
+use Rattle.pages.specs.Pages.{Pages}
 use Rattle.prepare.specs.Calls.{Lent, call, lengths, collationCheck, lengthCheck, textsRefusal, callRefusal}
 use Rattle.prepare.proofs.CallRefusals.{unrefused, unrefused-table}
 use Rattle.records.specs.Items.{rules, ofKey, agrees, keyFits}
@@ -48,14 +49,14 @@ pub key-fits : (n : ℕ) (k : Collation) (t : Table) (text : List ℕ) → colla
 key-fits n k t text named ok short = rw (le-leb (length text) 4096 short, named) (agree n k t text ok)
 
 -- and so does that of a text whose preparation was not refused
-pub kept-fits : (n : ℕ) (k : Collation) (t : Table) (l : Lent) (flag : ℕ) (key : List ℕ)
+pub kept-fits : (n : ℕ) (k : Collation) (t : Table) (pg : Pages) (l : Lent) (flag : ℕ) (key : List ℕ)
     → collationOf n ≡ some k
-    → callRefusal (call (some k) t (l ∷ [])) ≡ none
+    → callRefusal (call (some k) t pg (l ∷ [])) ≡ none
     → truth (prepared k (mappingOf t) (l .text) .valid) ≡ flag
     → key ≡ prepared k (mappingOf t) (l .text) .key
     → Unfit (ofKey (fieldsFor n flag (l .text)) key) → ⊥
-kept-fits n k t l flag key named ok e f unfit =
-    let c = call (some k) t (l ∷ []) in
+kept-fits n k t pg l flag key named ok e f unfit =
+    let c = call (some k) t pg (l ∷ []) in
     let texts = orElse-neither (textsRefusal (some k) (lengths c)) _ (unrefused c ok .0) .0 in
     let long = orElse-neither (lengthCheck 1 (length (l .text))) none (orElse-neither (collationCheck (some k)) _ texts .1) .0 in
     let short : length (l .text) ≤ 4096 = ltb-false 4096 (length (l .text)) (when-none _ _ long) in

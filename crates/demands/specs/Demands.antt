@@ -21,7 +21,9 @@ use Rattle.decompose.specs.Steps.{StepsGive}
 use Rattle.decompose.specs.TableCheck.{levelFault, tableRefusal}
 use Rattle.keys.specs.Keys.{PreparedText, keyOf}
 use Rattle.keys.specs.declared.Summary.{Summary}
-use Rattle.prepare.specs.Calls.{Lent, Call, lengths, preparedIn, collationCheck, lengthCheck, tableCheck, roomCheck}
+use Rattle.pages.specs.Pages.{Pages}
+use Rattle.prepare.specs.Calls.{Lent, Call, lengths, preparedIn, collationCheck, lengthCheck, tableCheck}
+use Rattle.prepare.specs.Calls.{pagesCheck, roomCheck}
 use Rattle.search.specs.Covering.{span}
 use Rattle.search.specs.Substring.{textRun}
 use Rattle.ucd.specs.Lines.{Properties, LineSays}
@@ -53,14 +55,19 @@ roomRow place (l ∷ ls) (p ∷ ps) = roomCheck place (length (l .buffer)) p ∷
 roomRow place [] ps = []
 roomRow place (l ∷ ls) [] = []
 
--- the checks of a call on texts: 1; 2 (first text, then second); 3 to 7 where the collation reads the table; 8 (first key,
--- then second)
+-- the checks of a call on texts: 1; 2 (first text, then second); 3 to 7 and 15 where the collation reads the table; 8 (first
+-- key, then second)
 abbrev pub callChecks : Call → List (Option Refusal)
 callChecks c =
     collationCheck (c .collation)
     ∷ lengthRow 1 (lengths c)
     ++ tableCheck (c .collation) (c .table)
+    ∷ pagesCheck (c .collation) (c .pages)
     ∷ roomRow 1 (c .lents) (preparedIn c)
+
+-- 15: "a page slice under 17,408 long"
+abbrev pub ShortPages : Pages → Type 0
+ShortPages p = (length (p .presence) < 17408) ⊎ (length (p .ranks) < 17408)
 
 -- a number of a collation
 abbrev pub CollationNumber : ℕ → Type 0

@@ -14,9 +14,10 @@ use Rattle.terms.specs.declared.Refusal.{Refusal}
 use Rattle.records.specs.Items.{listRules, ofText}
 use Rattle.records.specs.Reading.{stopped, item, kindIn, bodyIn, readAt}
 use Rattle.decompose.specs.TableCheck.{tableRefusal}
-use Rattle.prepare.specs.Calls.{tableCheck}
+use Rattle.prepare.specs.Calls.{lookupCheck}
 use Rattle.lists.specs.Lists.{ListsCall, allKeys, listsRefusal, Shares}
 use Rattle.lists.specs.declared.Shared.{Shared}
+use Rattle.demands.specs.Demands.{ShortPages}
 use Rattle.demands.specs.Faults.{Fault, plain}
 use Rattle.demands.specs.Records.{followingAt, fault11}
 
@@ -53,8 +54,8 @@ listFaults list p =
 
 -- ---- a call
 
--- the collation is known, and both lists are lists of at most 1,024 names; what the checks of a table say of them is left. Under
--- collations 1 and 2 `tableCheck` is none, whatever the table
+-- the collation is known, and both lists are lists of at most 1,024 names; what the checks of the table and of the pages say is
+-- left. Under collations 1 and 2 `lookupCheck` is none, whatever the table and the pages
 pub record Listed (c : ListsCall) (ts us : List (List ℕ)) : Type 0 where
   pub collation : Collation
   pub known : c .collation ≡ some collation
@@ -65,7 +66,7 @@ pub record Listed (c : ListsCall) (ts us : List (List ℕ)) : Type 0 where
 
 -- "order 1, then 11 to 13 on the first list, record by record, and on the second .., 14 (place 1 or 2 for the list in 11
 -- to 14), the table's 3 to 7, 8 for the store (detail all keys together), then 8 for either array (detail the first
--- list's names)"
+-- list's names)"; with request 6 15 "after 7 and before 8"
 pub data ListsRefused (c : ListsCall) : Refusal → Type 0 where
   number-1 : c .collation ≡ none → ListsRefused c (refusal 1 0 0)
   first-11-to-13 : (k : Collation) (x : Refusal)
@@ -95,14 +96,20 @@ pub data ListsRefused (c : ListsCall) : Refusal → Type 0 where
       → c .collation ≡ some UnicodeCasemap
       → tableRefusal (c .table) ≡ some x
       → ListsRefused c x
+  number-15 : (ts us : List (List ℕ))
+      → Listed c ts us
+      → c .collation ≡ some UnicodeCasemap
+      → tableRefusal (c .table) ≡ none
+      → ShortPages (c .pages)
+      → ListsRefused c (refusal 15 0 0)
   store-8 : (ts us : List (List ℕ))
       → Listed c ts us
-      → tableCheck (c .collation) (c .table) ≡ none
+      → lookupCheck (c .collation) (c .table) (c .pages) ≡ none
       → length (c .store) < length (allKeys c)
       → ListsRefused c (refusal 8 0 (length (allKeys c)))
   array-8 : (ts us : List (List ℕ))
       → Listed c ts us
-      → tableCheck (c .collation) (c .table) ≡ none
+      → lookupCheck (c .collation) (c .table) (c .pages) ≡ none
       → length (allKeys c) ≤ length (c .store)
       → (length (c .partners) < length ts) ⊎ (length (c .positions) < length ts)
       → ListsRefused c (refusal 8 0 (length ts))

@@ -1,8 +1,8 @@
 -- What is known under a collation that reads the table: that the table was checked, whether the text is valid, and what is
 -- left in the buffer of one that is not.
 -- Assumes nothing.
-use mathlib.Core.Path.{_≡_, refl}
-use mathlib.Core.Bool.{true, false, true≢false}
+use mathlib.Core.Path.{_≡_, refl, ap}
+use mathlib.Core.Bool.{Bool, true, false, cond, true≢false}
 use mathlib.Core.Option.{Option, none, some}
 use mathlib.Core.List.{List, [], _∷_}
 use Prim.Native.Nat.{ℕ}
@@ -14,8 +14,9 @@ use Rattle.terms.specs.declared.Collation.the-variants.{UnicodeCasemap}
 use Rattle.table.specs.Mapping.{Mapping}
 use Rattle.utf8.specs.Utf8.{Character, characters}
 use Rattle.table.specs.Table.{Table}
-use Rattle.decompose.specs.TableCheck.{tableRefusal}
-use Rattle.keys.specs.Keys.{unicodePrepared, prepared, tableUnder, keyed}
+use Rattle.pages.specs.Pages.{Pages}
+use Rattle.decompose.specs.TableCheck.{tableRefusal, Usable}
+use Rattle.keys.specs.Keys.{unicodePrepared, prepared, tableUnder, UsableUnder, keyed}
 use Rattle.keys.specs.Summaries.{summaryNumbers, preparedNumbers, KeyFilled}
 use Rattle.keys.specs.declared.Summary.{Summary}
 use Rattle.keys.proofs.Injective.{truth-inj}
@@ -27,14 +28,22 @@ pub filled-kept : (m : Mapping) (t buffer : List ℕ) (o : Option (List Characte
 filled-kept m t buffer none s e h = record { numbers = h; left = refl }
 filled-kept m t buffer (some chs) s e h = absurd (true≢false e)
 
--- where the table is read, it is the one that was checked
-pub tableUnder-reads : (k : Collation) (t : Table) → readsTable k ≡ true → tableUnder k t ≡ none → tableRefusal t ≡ none
-tableUnder-reads k t reads h = rw reads at h
+-- a table that may be gone on with was accepted
+pub usable-accepted : (k : Collation) (t : Table) (p : Pages) → UsableUnder k t p → tableUnder k t ≡ none
+usable-accepted k t p u = go (readsTable k) u
+  where
+    go : (b : Bool) → (b ≡ true → Usable t p) → cond b (tableRefusal t) none ≡ none
+    go true v = v refl .accepted
+    go false v = refl
 
 -- ---- under collation 3
 
 module _ (k : Collation) (e : k ≡ UnicodeCasemap) where
-  -- the table that a call reads is the one that was checked
+  -- the table and the pages that a call reads may be gone on with
+  pub usable-unicode : {t : Table} {p : Pages} → UsableUnder k t p → Usable t p
+  usable-unicode u = u (ap readsTable e)
+
+  -- and the table was accepted
   pub tableUnder-unicode : (t : Table) → tableUnder k t ≡ none → tableRefusal t ≡ none
   tableUnder-unicode t h = rw e at h
 

@@ -1,6 +1,7 @@
 -- The keys of the three collations (document 01, "The collations", "Preparation").
 -- "Each text has its own key, whatever the other text is."
 -- Assumes nothing.
+use mathlib.Core.Path.{_≡_}
 use Prim.Native.Nat.{ℕ, _-_}
 use mathlib.Core.Bool.{Bool, true, false, cond, _&&_}
 use mathlib.Core.Option.{Option, none, some}
@@ -16,7 +17,8 @@ use Rattle.table.specs.Mapping.{Mapping}
 use Rattle.utf8.specs.Utf8.{Character, characters}
 use Rattle.decompose.specs.Steps.{stepsKey, stepsLookups}
 use Rattle.table.specs.Table.{Table}
-use Rattle.decompose.specs.TableCheck.{tableRefusal}
+use Rattle.pages.specs.Pages.{Pages}
+use Rattle.decompose.specs.TableCheck.{tableRefusal, Usable}
 
 -- "octets 61 to 7A hex lowered by 20 hex, the rest kept"
 abbrev pub upper : ℕ → ℕ
@@ -56,6 +58,10 @@ keyOf k m t = prepared k m t .key
 -- 3 to 7 under a collation: "Collations 1 and 2 don't read the table. Every public call under 3 checks it."
 abbrev pub tableUnder : Collation → Table → Option Refusal
 tableUnder k t = cond (readsTable k) (tableRefusal t) none
+
+-- the table and its pages may be gone on with under a collation: they are asked for where it reads the table
+abbrev pub UsableUnder : Collation → Table → Pages → Type 0
+UsableUnder k t p = readsTable k ≡ true → Usable t p
 
 -- the octets of the key buffer that a preparation needs: "a key that belongs in a buffer"
 abbrev pub roomFor : PreparedText → ℕ

@@ -7,14 +7,14 @@ mod unicode;
 use terms::Collation;
 ghost use mathlib.Core.Path.{_≡_};
 ghost use mathlib.Core.List.{[], _∷_};
-ghost use mathlib.Core.Option.{none};
 ghost use Prim.Native.Nat.{_*_, _≤_};
 ghost use lib.ListN.{length};
 ghost use Rattle.terms.specs.Refusals.{textMost, expansionMost};
 ghost use Rattle.utf8.specs.Utf8.{characters};
 ghost use Rattle.table.specs.Table.{table, mappingOf};
-ghost use Rattle.decompose.specs.TableCheck.{tableRefusal};
-ghost use Rattle.keys.specs.Keys.{unicodePrepared, prepared, tableUnder, roomFor, keyed};
+ghost use Rattle.pages.specs.Pages.{pages};
+ghost use Rattle.decompose.specs.TableCheck.{Usable};
+ghost use Rattle.keys.specs.Keys.{unicodePrepared, prepared, UsableUnder, roomFor, keyed};
 ghost use Rattle.keys.specs.Summaries.{summaryNumbers, preparedNumbers, placeNumber, shownAt, roomy, KeyFilled};
 
 // Where a key stands: it is the text itself, or stands at the start of the key buffer.
@@ -35,9 +35,16 @@ pub struct Summary {
 }
 
 // What preparing a text comes to, with nothing written.
-pub fn size_key(collation: Collation, text: &[u8], entries: &[u32], pool: &[u32]) -> Summary
+pub fn size_key(
+    collation: Collation,
+    text: &[u8],
+    entries: &[u32],
+    pool: &[u32],
+    presence: &[u64],
+    ranks: &[u64],
+) -> Summary
     requires { ⌜ length (now text) ≤ textMost ⌝ }
-    requires { ⌜ tableUnder collation (table (now entries) (now pool)) ≡ none ⌝ }
+    requires { ⌜ UsableUnder collation (table (now entries) (now pool)) (pages (now presence) (now ranks)) ⌝ }
     ensures { λ r. ⌜ summaryNumbers r ≡ preparedNumbers
         (prepared collation (mappingOf (table (now (entries .entry)) (now (pool .entry)))) (now (text .entry))) ⌝ }
 {
@@ -47,7 +54,7 @@ pub fn size_key(collation: Collation, text: &[u8], entries: &[u32], pool: &[u32]
         Collation::UnicodeCasemap => {
             // An invalid text is its own key.
             if utf8::is_valid(text) {
-                return unicode::size_unicode(text, entries, pool);
+                return unicode::size_unicode(text, entries, pool, presence, ranks);
             }
             unicode::kept(text.len())
         }
@@ -72,11 +79,13 @@ pub fn write_key(
     text: &[u8],
     entries: &[u32],
     pool: &[u32],
+    presence: &[u64],
+    ranks: &[u64],
     summary: Summary,
     key: &mut [u8],
 )
     requires { ⌜ length (now text) ≤ textMost ⌝ }
-    requires { ⌜ tableUnder collation (table (now entries) (now pool)) ≡ none ⌝ }
+    requires { ⌜ UsableUnder collation (table (now entries) (now pool)) (pages (now presence) (now ranks)) ⌝ }
     requires { ⌜ summaryNumbers summary ≡ preparedNumbers
         (prepared collation (mappingOf (table (now entries) (now pool))) (now text)) ⌝ }
     requires { ⌜ roomFor (prepared collation (mappingOf (table (now entries) (now pool))) (now text)) ≤ length (now key) ⌝ }
@@ -91,7 +100,7 @@ pub fn write_key(
         }
         Collation::UnicodeCasemap => {
             if summary.valid {
-                unicode::write_unicode(text, entries, pool, key);
+                unicode::write_unicode(text, entries, pool, presence, ranks, key);
             }
         }
     }
@@ -103,10 +112,12 @@ pub fn fill_key(
     text: &[u8],
     entries: &[u32],
     pool: &[u32],
+    presence: &[u64],
+    ranks: &[u64],
     key: &mut [u8],
 ) -> Summary
     requires { ⌜ length (now text) ≤ textMost ⌝ }
-    requires { ⌜ tableUnder collation (table (now entries) (now pool)) ≡ none ⌝ }
+    requires { ⌜ UsableUnder collation (table (now entries) (now pool)) (pages (now presence) (now ranks)) ⌝ }
     requires { ⌜ roomFor (prepared collation (mappingOf (table (now entries) (now pool))) (now text)) ≤ length (now key) ⌝ }
     ensures { λ r. ⌜ KeyFilled (prepared collation (mappingOf (table (now (entries .entry)) (now (pool .entry))))
         (now (text .entry))) (now (key .entry)) r (now (key .exit)) ⌝ }
@@ -120,7 +131,7 @@ pub fn fill_key(
         Collation::UnicodeCasemap => {
             // An invalid text is its own key.
             if utf8::is_valid(text) {
-                return unicode::write_unicode(text, entries, pool, key);
+                return unicode::write_unicode(text, entries, pool, presence, ranks, key);
             }
             unicode::kept(text.len())
         }
@@ -138,16 +149,23 @@ pub fn is_roomy(collation: Collation, text_length: usize, room: usize) -> bool
 }
 
 // Prepares a text under collation 3 in one walk that writes, without sizing its key first: the buffer has room for any.
-pub fn fill_unicode(text: &[u8], entries: &[u32], pool: &[u32], key: &mut [u8]) -> Summary
+pub fn fill_unicode(
+    text: &[u8],
+    entries: &[u32],
+    pool: &[u32],
+    presence: &[u64],
+    ranks: &[u64],
+    key: &mut [u8],
+) -> Summary
     requires { ⌜ length (now text) ≤ textMost ⌝ }
-    requires { ⌜ tableRefusal (table (now entries) (now pool)) ≡ none ⌝ }
+    requires { ⌜ Usable (table (now entries) (now pool)) (pages (now presence) (now ranks)) ⌝ }
     requires { ⌜ expansionMost * length (now text) ≤ length (now key) ⌝ }
     ensures { λ r. ⌜ KeyFilled (unicodePrepared (mappingOf (table (now (entries .entry)) (now (pool .entry))))
         (now (text .entry)) (characters (now (text .entry)))) (now (key .entry)) r (now (key .exit)) ⌝ }
 {
     // An invalid text leaves the buffer, so the text is read to its end before the first octet is written.
     if utf8::is_valid(text) {
-        return unicode::write_unicode(text, entries, pool, key);
+        return unicode::write_unicode(text, entries, pool, presence, ranks, key);
     }
     unicode::kept(text.len())
 }

@@ -6,21 +6,27 @@ use terms::TextPosition;
 ghost use mathlib.Core.Path.{_≡_};
 ghost use mathlib.Core.Bool.{true};
 ghost use mathlib.Core.List.{[], _∷_};
-ghost use mathlib.Core.Option.{none};
 ghost use Prim.Native.Nat.{_≤_};
 ghost use lib.ListN.{length};
 ghost use Rattle.terms.specs.Lists.{there};
 ghost use Rattle.terms.specs.Refusals.{textMost};
 ghost use Rattle.utf8.specs.Utf8.{characters};
 ghost use Rattle.table.specs.Table.{table, mappingOf};
-ghost use Rattle.decompose.specs.TableCheck.{tableRefusal};
+ghost use Rattle.pages.specs.Pages.{pages};
+ghost use Rattle.decompose.specs.TableCheck.{Usable};
 ghost use Rattle.keys.specs.Keys.{unicodePrepared, roomFor};
 ghost use Rattle.keys.specs.Summaries.{summaryNumbers, preparedNumbers, KeyFilled};
 
 // What preparing a valid text under collation 3 comes to.
-pub fn size_unicode(text: &[u8], entries: &[u32], pool: &[u32]) -> Summary
+pub fn size_unicode(
+    text: &[u8],
+    entries: &[u32],
+    pool: &[u32],
+    presence: &[u64],
+    ranks: &[u64],
+) -> Summary
     requires { ⌜ length (now text) ≤ textMost ⌝ }
-    requires { ⌜ tableRefusal (table (now entries) (now pool)) ≡ none ⌝ }
+    requires { ⌜ Usable (table (now entries) (now pool)) (pages (now presence) (now ranks)) ⌝ }
     requires { ⌜ there (characters (now text)) ≡ true ⌝ }
     ensures { λ r. ⌜ summaryNumbers r ≡ preparedNumbers (unicodePrepared
         (mappingOf (table (now (entries .entry)) (now (pool .entry)))) (now (text .entry))
@@ -31,7 +37,7 @@ pub fn size_unicode(text: &[u8], entries: &[u32], pool: &[u32]) -> Summary
     let mut lookups: u64 = 0;
     while at.0 < text.len() {
         let character = utf8::read_valid(text, at);
-        let sized = decompose::size_expansion(character.code, entries, pool);
+        let sized = decompose::size_expansion(character.code, entries, pool, presence, ranks);
         at.0 += character.width;
         end.0 += sized.octets;
         lookups += sized.asks;
@@ -45,9 +51,16 @@ pub fn size_unicode(text: &[u8], entries: &[u32], pool: &[u32]) -> Summary
 }
 
 // Writes the key of a valid text under collation 3.
-pub fn write_unicode(text: &[u8], entries: &[u32], pool: &[u32], key: &mut [u8]) -> Summary
+pub fn write_unicode(
+    text: &[u8],
+    entries: &[u32],
+    pool: &[u32],
+    presence: &[u64],
+    ranks: &[u64],
+    key: &mut [u8],
+) -> Summary
     requires { ⌜ length (now text) ≤ textMost ⌝ }
-    requires { ⌜ tableRefusal (table (now entries) (now pool)) ≡ none ⌝ }
+    requires { ⌜ Usable (table (now entries) (now pool)) (pages (now presence) (now ranks)) ⌝ }
     requires { ⌜ there (characters (now text)) ≡ true ⌝ }
     requires { ⌜ roomFor
         (unicodePrepared (mappingOf (table (now entries) (now pool))) (now text) (characters (now text))) ≤ length
@@ -61,7 +74,14 @@ pub fn write_unicode(text: &[u8], entries: &[u32], pool: &[u32], key: &mut [u8])
     while at.0 < text.len() {
         let character = utf8::read_valid(text, at);
         let free = end.0;
-        let written = decompose::write_expansion(character.code, entries, pool, &mut key[free..]);
+        let written = decompose::write_expansion(
+            character.code,
+            entries,
+            pool,
+            presence,
+            ranks,
+            &mut key[free..],
+        );
         at.0 += character.width;
         end.0 += written.octets;
         lookups += written.asks;

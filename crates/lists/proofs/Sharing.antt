@@ -1,6 +1,6 @@
 -- Calls on two lists: what is left of the refusal where some checks were passed, and answers that are a refusal or a report.
 -- Assumes nothing.
-use mathlib.Core.Path.{_≡_, refl, sym}
+use mathlib.Core.Path.{_≡_, refl, sym, ap, _∙_}
 use Prim.Native.Nat.{ℕ, zero, suc, _-_, _*_, _≤_}
 use native.Mathlib.Omega.{arith}
 use mathlib.Core.Option.{Option, none, some}
@@ -8,19 +8,20 @@ use mathlib.Core.List.{List, [], _∷_}
 use lib.Dec.{ltb}
 use lib.ListN.{length}
 use borrow.Author.Tests.{ltb-false}
-use Rattle.terms.specs.Lists.{orElse, total}
+use Rattle.terms.specs.Lists.{total}
 use Rattle.terms.specs.Refusals.{namesMost, textMost, refusal, first}
 use Rattle.terms.specs.declared.Collation.{Collation}
 use Rattle.terms.specs.declared.Refusal.{Refusal}
-use Rattle.terms.proofs.Checks.{when-none, first-none}
+use Rattle.terms.proofs.Checks.{when-none, first-none, orElse-none}
 use Rattle.terms.proofs.Tests.{none-some}
-use Rattle.prepare.specs.Calls.{tableCheck}
+use Rattle.pages.specs.Pages.{Pages}
+use Rattle.prepare.specs.Calls.{lookupCheck, pagesBy}
 use Rattle.records.specs.Items.{listRules, ofText, ofKey}
 use Rattle.records.specs.Reading.{Reading, end, stopped, item, readAt}
 use Rattle.records.proofs.Steps.{readAt-text}
 use Rattle.lists.specs.Names.{nameAnd, readOn, namesFrom, namesIn, listFault}
 use Rattle.lists.specs.Lists.{ListsCall, placed, namesChecks, roomsRefusal}
-use Rattle.lists.specs.Lists.{listsRefusal, Shares, firstKeys, secondKeys}
+use Rattle.lists.specs.Lists.{readyRefusal, listsRefusal, slicesAfter, pagesAfter, Shares, firstKeys, secondKeys}
 use Rattle.lists.specs.Promises.{nameOctets, octetsMost, Counted, Named, Listed, Reports}
 use Rattle.lists.specs.declared.names.NameCount.{NameCount}
 use Rattle.lists.specs.declared.Shared.{Shared}
@@ -100,20 +101,29 @@ module _ (c : ListsCall) where
   unfolding listsRefusal
   refused-names e = rw (← e) refl
 
+  -- and the pages stay then
+  pub paged-names : {r : Refusal} → some r ≡ first (namesChecks (c .collation) (c .firstList) (c .secondList))
+      → c .pages ≡ pagesAfter c
+  paged-names e = rw (← e) refl
+
   module _ (names : none ≡ first (namesChecks (c .collation) (c .firstList) (c .secondList))) where
-    -- then 3 to 7
-    pub refused-table : {r : Refusal} → tableCheck (c .collation) (c .table) ≡ some r → listsRefusal c ≡ some r
+    -- then 3 to 7 and 15
+    pub refused-lookup : {r : Refusal} → lookupCheck (c .collation) (c .table) (c .pages) ≡ some r → listsRefusal c ≡ some r
     unfolding listsRefusal
-    refused-table e = rw (← names, e) refl
+    refused-lookup e = rw (← names, e) refl
+
+    -- by which the pages go
+    pub paged-lookup : {q : Pages} → q ≡ pagesBy (lookupCheck (c .collation) (c .table) (c .pages)) (c .collation) (c .table) (c .pages)
+        → q ≡ pagesAfter c
+    paged-lookup e =
+        let ready : readyRefusal c ≡ lookupCheck (c .collation) (c .table) (c .pages) =
+        rw (← names) (orElse-none (lookupCheck (c .collation) (c .table) (c .pages))) in
+        e ∙ ap (λ (x : Option Refusal). pagesBy x (c .collation) (c .table) (c .pages)) (sym ready)
 
     -- then 8
-    pub refused-rooms : tableCheck (c .collation) (c .table) ≡ none → listsRefusal c ≡ roomsRefusal c
+    pub refused-rooms : lookupCheck (c .collation) (c .table) (c .pages) ≡ none → listsRefusal c ≡ roomsRefusal c
     unfolding listsRefusal
-    refused-rooms e = rw (← names, e) (last (roomsRefusal c))
-      where
-        last : (x : Option Refusal) → orElse x none ≡ x
-        last none = refl
-        last (some y) = refl
+    refused-rooms e = rw (← names, e) (orElse-none (roomsRefusal c))
 
 -- ---- answers
 
@@ -126,6 +136,28 @@ shares-refused c r e = rw e (record { answered = refl; left = refl })
 pub shares-same : {x y : Option Refusal} {c : ListsCall} {r : Shared} {after : List
     (List ℕ)} → x ≡ y → Shares y c r after → Shares x c r after
 shares-same e s = rw e s
+
+-- a call with other pages
+abbrev pub repaged : ListsCall → Pages → ListsCall
+repaged c p = record {
+  collation = c .collation;
+  firstList = c .firstList;
+  secondList = c .secondList;
+  table = c .table;
+  pages = p;
+  store = c .store;
+  partners = c .partners;
+  positions = c .positions;
+}
+
+-- answers alike
+pub shares-repaged : {x : Option Refusal} (c : ListsCall) (p : Pages) {r : Shared} {after : List (List ℕ)}
+    → Shares x (repaged c p) r after → Shares x c r after
+shares-repaged {x} c p h = record { answered = h .answered; left = h .left ∙ slices x }
+  where
+    slices : (y : Option Refusal) → slicesAfter y (repaged c p) ≡ slicesAfter y c
+    slices none = refl
+    slices (some r) = refl
 
 -- a report
 pub shares-found : {x : Option Refusal} (c : ListsCall) (t : Partnered) (n m : ℕ) {store partners positions : List ℕ}

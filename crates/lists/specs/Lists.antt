@@ -12,7 +12,8 @@ use Rattle.terms.specs.Refusals.{namesMost, refusal, check, first, Outcome, ref
 use Rattle.terms.specs.declared.Collation.{Collation}
 use Rattle.terms.specs.declared.Refusal.{Refusal}
 use Rattle.table.specs.Table.{Table, table, mappingOf}
-use Rattle.prepare.specs.Calls.{collationCheck, tableCheck}
+use Rattle.pages.specs.Pages.{Pages, pages}
+use Rattle.prepare.specs.Calls.{collationCheck, lookupCheck, pagesBy}
 use Rattle.storing.specs.Stored.{keysUnder, joined}
 use Rattle.storing.specs.Rooms.{storeCheck, arraysCheck}
 use Rattle.partners.specs.Partners.{equalPairs, partnered, partnerOf, keyPositions}
@@ -22,23 +23,26 @@ use Rattle.lists.specs.declared.Shared.the-variants.{Found, Refused}
 
 -- ---- a call
 
--- a call on two lists: the collation that its number names, if it names one; the lists; the table; store and arrays as lent
+-- a call on two lists: the collation that its number names, if it names one; the lists; the table; pages, store and
+-- arrays as lent
 pub record ListsCall : Type 0 where
   pub collation : Option Collation
   pub firstList : List ℕ
   pub secondList : List ℕ
   pub table : Table
+  pub pages : Pages
   pub store : List ℕ
   pub partners : List ℕ
   pub positions : List ℕ
 
 -- a call by the parameters of a function
-abbrev pub listsCall : Option Collation → List ℕ → List ℕ → List ℕ → List ℕ → List ℕ → List ℕ → List ℕ → ListsCall
-listsCall k one two entries pool s p q = record {
+abbrev pub listsCall : Option Collation → List ℕ → List ℕ → List ℕ → List ℕ → List ℕ → List ℕ → List ℕ → List ℕ → List ℕ → ListsCall
+listsCall k one two entries pool presence ranks s p q = record {
   collation = k;
   firstList = one;
   secondList = two;
   table = table entries pool;
+  pages = pages presence ranks;
   store = s;
   partners = p;
   positions = q;
@@ -85,12 +89,20 @@ roomsRefusal c =
     ∷ arraysCheck (length (c .partners)) (length (c .positions)) (length (namesIn (c .firstList)))
     ∷ [])
 
--- the refusal of a call, if there is one: 1, 11 to 14, "the table's 3 to 7", 8
+-- the refusal before any key is looked at: 1, 11 to 14, "the table's 3 to 7", and 15 (request 6)
+abbrev pub readyRefusal : ListsCall → Option Refusal
+readyRefusal c =
+    first
+    (first (namesChecks (c .collation) (c .firstList) (c .secondList))
+    ∷ lookupCheck (c .collation) (c .table) (c .pages)
+    ∷ [])
+
+-- the refusal of a call, if there is one: 1, 11 to 14, 3 to 7, 15, 8
 unfoldable pub listsRefusal : ListsCall → Option Refusal
 listsRefusal c =
     first
     (first (namesChecks (c .collation) (c .firstList) (c .secondList))
-    ∷ tableCheck (c .collation) (c .table)
+    ∷ lookupCheck (c .collation) (c .table) (c .pages)
     ∷ roomsRefusal c
     ∷ [])
 
@@ -119,8 +131,17 @@ slicesAfter none c =
     ∷ []
 slicesAfter (some r) c = c .store ∷ c .partners ∷ c .positions ∷ []
 
+-- the pages after a call: filled where none of 1, 11 to 14, 3 to 7 and 15 applies
+abbrev pub pagesAfter : ListsCall → Pages
+pagesAfter c = pagesBy (readyRefusal c) (c .collation) (c .table) (c .pages)
+
 -- a call was answered: its outcome is the refusal or its values, and the lent slices are those after it. The refusal is the
 -- call's, or what is left of it where some checks were passed.
 pub record Shares (x : Option Refusal) (c : ListsCall) (r : Shared) (after : List (List ℕ)) : Type 0 where
   pub answered : sharedOutcome r ≡ answer x (sharedValues c)
   pub left : after ≡ slicesAfter x c
+
+-- the whole call, which was lent the pages to fill
+pub record SharesPaging (c : ListsCall) (r : Shared) (after : List (List ℕ)) (p : Pages) : Type 0 where
+  pub shares : Shares (listsRefusal c) c r after
+  pub paged : p ≡ pagesAfter c

@@ -15,7 +15,8 @@ ghost use lib.ListN.{length};
 ghost use Rattle.terms.specs.Collations.{collationOf};
 ghost use Rattle.terms.specs.Refusals.{refusal, checkRefusal};
 ghost use Rattle.table.specs.Table.{table, mappingOf};
-ghost use Rattle.keys.specs.Keys.{keyOf, tableUnder};
+ghost use Rattle.pages.specs.Pages.{pages};
+ghost use Rattle.keys.specs.Keys.{keyOf, UsableUnder};
 ghost use Rattle.lists.specs.Names.{namesIn, listFault};
 ghost use Rattle.storing.specs.Stored.{joined};
 ghost use Rattle.storing.specs.Rooms.{storeCheck};
@@ -63,9 +64,11 @@ pub fn check_store(
     octets: usize,
     entries: &[u32],
     pool: &[u32],
+    presence: &[u64],
+    ranks: &[u64],
     room: usize,
 ) -> Check
-    requires { ⌜ tableUnder collation (table (now entries) (now pool)) ≡ none ⌝ }
+    requires { ⌜ UsableUnder collation (table (now entries) (now pool)) (pages (now presence) (now ranks)) ⌝ }
     requires { ⌜ listFault (now first) ≡ none ⌝ }
     requires { ⌜ listFault (now second) ≡ none ⌝ }
     requires { ⌜ nameOctets (now first) ≤ octetsMost ⌝ }
@@ -78,8 +81,8 @@ pub fn check_store(
     if octets <= room / terms::EXPANSION_MOST {
         return Check::Passed;
     }
-    let needed = size_keys(collation, first, entries, pool)
-        + size_keys(collation, second, entries, pool);
+    let needed = size_keys(collation, first, entries, pool, presence, ranks)
+        + size_keys(collation, second, entries, pool, presence, ranks);
     if room < needed {
         return Check::Refused(refused(terms::REFUSED_LIST_ROOM, 0, needed as u64));
     }

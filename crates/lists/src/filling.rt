@@ -1,4 +1,4 @@
-// Calls on two lists that passed 1, 11 to 14 and 3 to 7: only 8 is left, and then the report is written.
+// Calls on two lists that passed 1, 11 to 14, 3 to 7 and 15: only 8 is left, and then the report is written.
 use super::Shared;
 use super::Totals;
 use crate::checks::check_store;
@@ -10,11 +10,12 @@ use terms::Check;
 use terms::Collation;
 ghost use mathlib.Core.Path.{_≡_};
 ghost use mathlib.Core.List.{[], _∷_, _++_, map};
-ghost use mathlib.Core.Option.{none, some};
+ghost use mathlib.Core.Option.{some};
 ghost use Prim.Native.Nat.{_≤_};
 ghost use lib.ListN.{length};
 ghost use Rattle.table.specs.Table.{table, mappingOf};
-ghost use Rattle.keys.specs.Keys.{keyOf, tableUnder};
+ghost use Rattle.pages.specs.Pages.{pages};
+ghost use Rattle.keys.specs.Keys.{keyOf, UsableUnder};
 ghost use Rattle.lists.specs.Names.{namesIn};
 ghost use Rattle.storing.specs.Stored.{joined};
 ghost use Rattle.lists.specs.Lists.{listsCall, roomsRefusal, Shares};
@@ -32,15 +33,16 @@ pub fn fill_lists(
     two: NameCount,
     entries: &[u32],
     pool: &[u32],
+    presence: &[u64],
+    ranks: &[u64],
     store: &mut [u8],
     partners: &mut [u32],
     positions: &mut [u32],
 ) -> Shared
-    requires { ⌜ tableUnder collation (table (now entries) (now pool)) ≡ none ⌝ }
+    requires { ⌜ UsableUnder collation (table (now entries) (now pool)) (pages (now presence) (now ranks)) ⌝ }
     requires { ⌜ Listed (now first) one ⌝ }
     requires { ⌜ Listed (now second) two ⌝ }
-    ensures { λ r. ⌜ (let c = listsCall (some collation) (now (first .entry)) (now (second .entry)) (now (entries .entry))
-        (now (pool .entry)) (now (store .entry)) (now (partners .entry)) (now (positions .entry)) in
+    ensures { λ r. ⌜ (let c = listsCall (some collation) (now (first .entry)) (now (second .entry)) (now (entries .entry)) (now (pool .entry)) (now (presence .entry)) (now (ranks .entry)) (now (store .entry)) (now (partners .entry)) (now (positions .entry)) in
         Shares (roomsRefusal c) c r (now (store .exit) ∷ now (partners .exit) ∷ now (positions .exit) ∷ [])) ⌝ }
 {
     let octets = one.octets + two.octets;
@@ -51,6 +53,8 @@ pub fn fill_lists(
         octets,
         entries,
         pool,
+        presence,
+        ranks,
         store.len(),
     ) {
         return Shared::Refused(r);
@@ -66,6 +70,8 @@ pub fn fill_lists(
         two.names,
         entries,
         pool,
+        presence,
+        ranks,
         store,
         partners,
         positions,
@@ -87,11 +93,13 @@ fn report(
     second_names: usize,
     entries: &[u32],
     pool: &[u32],
+    presence: &[u64],
+    ranks: &[u64],
     store: &mut [u8],
     partners: &mut [u32],
     positions: &mut [u32],
 ) -> partners::Totals
-    requires { ⌜ tableUnder collation (table (now entries) (now pool)) ≡ none ⌝ }
+    requires { ⌜ UsableUnder collation (table (now entries) (now pool)) (pages (now presence) (now ranks)) ⌝ }
     requires { ⌜ Named (now first) «first_names» ⌝ }
     requires { ⌜ Named (now second) «second_names» ⌝ }
     requires { ⌜ length (joined (map (keyOf collation (mappingOf (table (now entries) (now pool)))) (namesIn (now first))
@@ -113,6 +121,8 @@ fn report(
         first_names,
         entries,
         pool,
+        presence,
+        ranks,
         store,
         &mut ends,
     );

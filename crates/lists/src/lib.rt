@@ -1,7 +1,7 @@
 // Which names two lists share (document 02, request 3).
 //
 // A list is kind 1 records, one after another. `find_shared` takes any arguments at all; the `_accepted` one asks for a table
-// that is accepted already. The definitions stand in specs/, and those of what keys share in the crate partners.
+// that is accepted already and its pages. The definitions stand in specs/, and those of what keys share in the crate partners.
 mod checks;
 mod filling;
 mod names;
@@ -14,11 +14,11 @@ use prepare::CallCheck;
 use terms::Refusal;
 ghost use mathlib.Core.Path.{_≡_};
 ghost use mathlib.Core.List.{[], _∷_};
-ghost use mathlib.Core.Option.{none};
 ghost use Rattle.terms.specs.Collations.{collationOf};
 ghost use Rattle.table.specs.Table.{table};
-ghost use Rattle.prepare.specs.Calls.{tableCheck};
-ghost use Rattle.lists.specs.Lists.{listsCall, listsRefusal, Shares};
+ghost use Rattle.pages.specs.Pages.{pages};
+ghost use Rattle.prepare.specs.Calls.{UsableBy};
+ghost use Rattle.lists.specs.Lists.{listsCall, listsRefusal, Shares, SharesPaging};
 
 // What two lists share.
 pub struct Totals {
@@ -45,19 +45,22 @@ pub fn find_shared(
     second: &[u8],
     entries: &[u32],
     pool: &[u32],
+    presence: &mut [u64],
+    ranks: &mut [u64],
     store: &mut [u8],
     partners: &mut [u32],
     positions: &mut [u32],
 ) -> Shared
     ensures { λ r. ⌜ (let c = listsCall (collationOf collation) (now (first .entry)) (now (second .entry))
-        (now (entries .entry)) (now (pool .entry)) (now (store .entry)) (now (partners .entry)) (now (positions .entry)) in
-        Shares (listsRefusal c) c r (now (store .exit) ∷ now (partners .exit) ∷ now (positions .exit) ∷ [])) ⌝ }
+        (now (entries .entry)) (now (pool .entry)) (now (presence .entry)) (now (ranks .entry)) (now (store .entry)) (now (partners .entry)) (now (positions .entry)) in
+        SharesPaging c r (now (store .exit) ∷ now (partners .exit) ∷ now (positions .exit) ∷ [])
+        (pages (now (presence .exit)) (now (ranks .exit)))) ⌝ }
 {
     let checked = check_lists(collation, first, second);
     match checked {
         ListsCheck::Passed(known, one, two) => {
-            // Two empty texts pass 2, so that only the table's checks are left to this call.
-            let called = prepare::check_call(collation, 0, 0, entries, pool);
+            // Two empty texts pass 2, so that only the checks of the table and of the pages are left to this call.
+            let called = prepare::check_call(collation, 0, 0, entries, pool, presence, ranks);
             match called {
                 CallCheck::Passed(_) => fill_lists(
                     known,
@@ -67,6 +70,8 @@ pub fn find_shared(
                     two,
                     entries,
                     pool,
+                    presence,
+                    ranks,
                     store,
                     partners,
                     positions,
@@ -78,20 +83,22 @@ pub fn find_shared(
     }
 }
 
-// As `find_shared`, over a table that is accepted already.
+// As `find_shared`, over a table that is accepted already, with its pages.
 pub fn find_shared_accepted(
     collation: u32,
     first: &[u8],
     second: &[u8],
     entries: &[u32],
     pool: &[u32],
+    presence: &[u64],
+    ranks: &[u64],
     store: &mut [u8],
     partners: &mut [u32],
     positions: &mut [u32],
 ) -> Shared
-    requires { ⌜ tableCheck (collationOf collation) (table (now entries) (now pool)) ≡ none ⌝ }
+    requires { ⌜ UsableBy (collationOf collation) (table (now entries) (now pool)) (pages (now presence) (now ranks)) ⌝ }
     ensures { λ r. ⌜ (let c = listsCall (collationOf collation) (now (first .entry)) (now (second .entry))
-        (now (entries .entry)) (now (pool .entry)) (now (store .entry)) (now (partners .entry)) (now (positions .entry)) in
+        (now (entries .entry)) (now (pool .entry)) (now (presence .entry)) (now (ranks .entry)) (now (store .entry)) (now (partners .entry)) (now (positions .entry)) in
         Shares (listsRefusal c) c r (now (store .exit) ∷ now (partners .exit) ∷ now (positions .exit) ∷ [])) ⌝ }
 {
     let checked = check_lists(collation, first, second);
@@ -104,6 +111,8 @@ pub fn find_shared_accepted(
             two,
             entries,
             pool,
+            presence,
+            ranks,
             store,
             partners,
             positions,

@@ -9,14 +9,22 @@ ghost use mathlib.Core.List.{map, _++_};
 ghost use Prim.Native.Nat.{_+_, _≤_};
 ghost use lib.ListN.{length};
 ghost use Rattle.table.specs.Table.{table, mappingOf};
-ghost use Rattle.keys.specs.Keys.{keyOf, tableUnder};
+ghost use Rattle.pages.specs.Pages.{pages};
+ghost use Rattle.keys.specs.Keys.{keyOf, UsableUnder};
 ghost use Rattle.lists.specs.Names.{namesIn, listFault};
 ghost use Rattle.storing.specs.Stored.{joined, PutsKeys};
 ghost use Rattle.lists.specs.Promises.{nameOctets, octetsMost, PutsAll};
 
 // The octets that the keys of a list's names have together.
-pub fn size_keys(collation: Collation, list: &[u8], entries: &[u32], pool: &[u32]) -> usize
-    requires { ⌜ tableUnder collation (table (now entries) (now pool)) ≡ none ⌝ }
+pub fn size_keys(
+    collation: Collation,
+    list: &[u8],
+    entries: &[u32],
+    pool: &[u32],
+    presence: &[u64],
+    ranks: &[u64],
+) -> usize
+    requires { ⌜ UsableUnder collation (table (now entries) (now pool)) (pages (now presence) (now ranks)) ⌝ }
     requires { ⌜ listFault (now list) ≡ none ⌝ }
     requires { ⌜ nameOctets (now list) ≤ octetsMost ⌝ }
     ensures { λ r. ⌜ r ≡ length (joined (map (keyOf collation (mappingOf (table (now (entries .entry)) (now (pool .entry)))))
@@ -28,7 +36,7 @@ pub fn size_keys(collation: Collation, list: &[u8], entries: &[u32], pool: &[u32
         let place = name_at(list, at);
         let start = place.start.0;
         let end = place.end.0;
-        let summary = keys::size_key(collation, &list[start..end], entries, pool);
+        let summary = keys::size_key(collation, &list[start..end], entries, pool, presence, ranks);
         size += summary.key_length;
         at = place.end;
     }
@@ -43,10 +51,12 @@ pub fn put_both(
     first_names: usize,
     entries: &[u32],
     pool: &[u32],
+    presence: &[u64],
+    ranks: &[u64],
     store: &mut [u8],
     ends: &mut [usize],
 )
-    requires { ⌜ tableUnder collation (table (now entries) (now pool)) ≡ none ⌝ }
+    requires { ⌜ UsableUnder collation (table (now entries) (now pool)) (pages (now presence) (now ranks)) ⌝ }
     requires { ⌜ listFault (now first) ≡ none ⌝ }
     requires { ⌜ listFault (now second) ≡ none ⌝ }
     requires { ⌜ «first_names» ≡ length (namesIn (now first)) ⌝ }
@@ -57,12 +67,25 @@ pub fn put_both(
         PutsAll (map key (namesIn (now (first .entry))) ++ map key (namesIn (now (second .entry)))) (now (store .entry))
         (now (ends .entry)) (now (store .exit)) (now (ends .exit))) ⌝ }
 {
-    let middle = put_keys(collation, first, entries, pool, 0, store, 0, ends);
+    let middle = put_keys(
+        collation,
+        first,
+        entries,
+        pool,
+        presence,
+        ranks,
+        0,
+        store,
+        0,
+        ends,
+    );
     put_keys(
         collation,
         second,
         entries,
         pool,
+        presence,
+        ranks,
         middle,
         store,
         first_names,
@@ -77,12 +100,14 @@ fn put_keys(
     list: &[u8],
     entries: &[u32],
     pool: &[u32],
+    presence: &[u64],
+    ranks: &[u64],
     from: usize,
     store: &mut [u8],
     index: usize,
     ends: &mut [usize],
 ) -> usize
-    requires { ⌜ tableUnder collation (table (now entries) (now pool)) ≡ none ⌝ }
+    requires { ⌜ UsableUnder collation (table (now entries) (now pool)) (pages (now presence) (now ranks)) ⌝ }
     requires { ⌜ listFault (now list) ≡ none ⌝ }
     requires { ⌜ from + length (joined (map (keyOf collation (mappingOf (table (now entries) (now pool))))
         (namesIn (now list)))) ≤ length (now store) ⌝ }
@@ -103,6 +128,8 @@ fn put_keys(
             &list[start..stop],
             entries,
             pool,
+            presence,
+            ranks,
             &mut store[end..],
         );
         end += summary.key_length;

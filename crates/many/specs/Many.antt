@@ -17,7 +17,8 @@ use Rattle.table.specs.Mapping.{Mapping}
 use Rattle.table.specs.Table.{Table, table, mappingOf}
 use Rattle.keys.specs.Keys.{prepared}
 use Rattle.keys.specs.Summaries.{truth}
-use Rattle.prepare.specs.Calls.{collationCheck, tableCheck}
+use Rattle.pages.specs.Pages.{Pages, pages}
+use Rattle.prepare.specs.Calls.{collationCheck, lookupCheck, pagesBy}
 use Rattle.sorting.specs.KeyOrder.{startOf}
 use Rattle.storing.specs.Ends.{stringAt, endsRefusal}
 use Rattle.storing.specs.Rooms.{storeCheck, arraysCheck}
@@ -28,23 +29,25 @@ use Rattle.many.specs.declared.Batch.the-variants.{Prepared, Refused}
 -- ---- a call
 
 -- a call on many texts: the collation that its number names, if it names one; the octets of all texts, and where each ends; the
--- table; store, ends of keys and validity as lent
+-- table; pages, store, ends of keys and validity as lent
 pub record ManyCall : Type 0 where
   pub collation : Option Collation
   pub octets : List ℕ
   pub ends : List ℕ
   pub table : Table
+  pub pages : Pages
   pub store : List ℕ
   pub keyEnds : List ℕ
   pub valid : List ℕ
 
 -- a call by the parameters of a function
-abbrev pub manyCall : Option Collation → List ℕ → List ℕ → List ℕ → List ℕ → List ℕ → List ℕ → List ℕ → ManyCall
-manyCall k o e entries pool s q v = record {
+abbrev pub manyCall : Option Collation → List ℕ → List ℕ → List ℕ → List ℕ → List ℕ → List ℕ → List ℕ → List ℕ → List ℕ → ManyCall
+manyCall k o e entries pool presence ranks s q v = record {
   collation = k;
   octets = o;
   ends = e;
   table = table entries pool;
+  pages = pages presence ranks;
   store = s;
   keyEnds = q;
   valid = v;
@@ -89,12 +92,20 @@ roomsRefusal c =
     ∷ arraysCheck (length (c .keyEnds)) (length (c .valid)) (length (c .ends))
     ∷ [])
 
--- the refusal of a call, if there is one: 1, 14, 36, 2, the table's 3 to 7, 8
+-- the refusal before any key is looked at: 1, 14, 36, 2, the table's 3 to 7, and 15
+abbrev pub readyRefusal : ManyCall → Option Refusal
+readyRefusal c =
+    first
+    (first (textsChecks (c .collation) (length (c .octets)) (c .ends))
+    ∷ lookupCheck (c .collation) (c .table) (c .pages)
+    ∷ [])
+
+-- the refusal of a call, if there is one: 1, 14, 36, 2, 3 to 7, 15, 8
 unfoldable pub manyRefusal : ManyCall → Option Refusal
 manyRefusal c =
     first
     (first (textsChecks (c .collation) (length (c .octets)) (c .ends))
-    ∷ tableCheck (c .collation) (c .table)
+    ∷ lookupCheck (c .collation) (c .table) (c .pages)
     ∷ roomsRefusal c
     ∷ [])
 
@@ -118,8 +129,17 @@ slicesAfter none c =
     ∷ []
 slicesAfter (some r) c = c .store ∷ c .keyEnds ∷ c .valid ∷ []
 
+-- the pages after a call: filled where none of 1, 14, 36, 2, 3 to 7 and 15 applies
+abbrev pub pagesAfter : ManyCall → Pages
+pagesAfter c = pagesBy (readyRefusal c) (c .collation) (c .table) (c .pages)
+
 -- a call was answered: its outcome is the refusal or its values, and the lent slices are those after it. The refusal is the
 -- call's, or what is left of it where some checks were passed.
 pub record PreparesMany (x : Option Refusal) (c : ManyCall) (r : Batch) (after : List (List ℕ)) : Type 0 where
   pub answered : batchOutcome r ≡ answer x (manyValues c)
   pub left : after ≡ slicesAfter x c
+
+-- the whole call, which was lent the pages to fill
+pub record PreparesManyPaging (c : ManyCall) (r : Batch) (after : List (List ℕ)) (p : Pages) : Type 0 where
+  pub prepares : PreparesMany (manyRefusal c) c r after
+  pub paged : p ≡ pagesAfter c

@@ -1,4 +1,4 @@
-// Calls on many texts that passed 1, 14, 36, 2 and 3 to 7: only 8 is left, and then the keys are written.
+// Calls on many texts that passed 1, 14, 36, 2, 3 to 7 and 15: only 8 is left, and then the keys are written.
 use super::Batch;
 use sorting::key_at;
 use storing::check_arrays;
@@ -13,7 +13,8 @@ ghost use Prim.Native.Nat.{_≤_};
 ghost use lib.ListN.{length};
 ghost use Rattle.terms.specs.Refusals.{checkRefusal};
 ghost use Rattle.table.specs.Table.{table, mappingOf};
-ghost use Rattle.keys.specs.Keys.{keyOf, tableUnder};
+ghost use Rattle.pages.specs.Pages.{pages};
+ghost use Rattle.keys.specs.Keys.{keyOf, UsableUnder};
 ghost use Rattle.keys.specs.Summaries.{truth};
 ghost use Rattle.storing.specs.Rooms.{storeCheck};
 ghost use Rattle.storing.specs.Stored.{joined, stringsIn};
@@ -27,17 +28,28 @@ pub fn fill_many(
     ends: &[usize],
     entries: &[u32],
     pool: &[u32],
+    presence: &[u64],
+    ranks: &[u64],
     store: &mut [u8],
     key_ends: &mut [usize],
     valid: &mut [u8],
 ) -> Batch
-    requires { ⌜ tableUnder collation (table (now entries) (now pool)) ≡ none ⌝ }
+    requires { ⌜ UsableUnder collation (table (now entries) (now pool)) (pages (now presence) (now ranks)) ⌝ }
     requires { ⌜ Texts (now octets) (now ends) ⌝ }
     ensures { λ r. ⌜ (let c = manyCall (some collation) (now (octets .entry)) (now (ends .entry))
-        (now (entries .entry)) (now (pool .entry)) (now (store .entry)) (now («key_ends» .entry)) (now (valid .entry)) in
+        (now (entries .entry)) (now (pool .entry)) (now (presence .entry)) (now (ranks .entry)) (now (store .entry)) (now («key_ends» .entry)) (now (valid .entry)) in
         PreparesMany (roomsRefusal c) c r (now (store .exit) ∷ now («key_ends» .exit) ∷ now (valid .exit) ∷ [])) ⌝ }
 {
-    if let Check::Refused(r) = check_store(collation, octets, ends, entries, pool, store.len()) {
+    if let Check::Refused(r) = check_store(
+        collation,
+        octets,
+        ends,
+        entries,
+        pool,
+        presence,
+        ranks,
+        store.len(),
+    ) {
         return Batch::Refused(r);
     }
     if let Check::Refused(r) = check_arrays(key_ends.len(), valid.len(), ends.len()) {
@@ -49,6 +61,8 @@ pub fn fill_many(
         ends,
         entries,
         pool,
+        presence,
+        ranks,
         store,
         key_ends,
         valid,
@@ -62,9 +76,11 @@ fn check_store(
     ends: &[usize],
     entries: &[u32],
     pool: &[u32],
+    presence: &[u64],
+    ranks: &[u64],
     room: usize,
 ) -> Check
-    requires { ⌜ tableUnder collation (table (now entries) (now pool)) ≡ none ⌝ }
+    requires { ⌜ UsableUnder collation (table (now entries) (now pool)) (pages (now presence) (now ranks)) ⌝ }
     requires { ⌜ Texts (now octets) (now ends) ⌝ }
     ensures { λ r. ⌜ checkRefusal r ≡ storeCheck room (length (joined
         (map (keyOf collation (mappingOf (table (now (entries .entry)) (now (pool .entry)))))
@@ -74,7 +90,7 @@ fn check_store(
     if octets.len() <= room / terms::EXPANSION_MOST {
         return Check::Passed;
     }
-    let needed = size_many(collation, octets, ends, entries, pool);
+    let needed = size_many(collation, octets, ends, entries, pool, presence, ranks);
     if room < needed {
         return Check::Refused(Refusal {
             number: terms::REFUSED_MANY_ROOM,
@@ -92,8 +108,10 @@ fn size_many(
     ends: &[usize],
     entries: &[u32],
     pool: &[u32],
+    presence: &[u64],
+    ranks: &[u64],
 ) -> usize
-    requires { ⌜ tableUnder collation (table (now entries) (now pool)) ≡ none ⌝ }
+    requires { ⌜ UsableUnder collation (table (now entries) (now pool)) (pages (now presence) (now ranks)) ⌝ }
     requires { ⌜ Texts (now octets) (now ends) ⌝ }
     ensures { λ r. ⌜ r ≡ length (joined
         (map (keyOf collation (mappingOf (table (now (entries .entry)) (now (pool .entry)))))
@@ -103,7 +121,7 @@ fn size_many(
     let mut size = 0;
     while i < ends.len() {
         let text = key_at(octets, ends, i);
-        let summary = keys::size_key(collation, text, entries, pool);
+        let summary = keys::size_key(collation, text, entries, pool, presence, ranks);
         size += summary.key_length;
         i += 1;
     }
@@ -118,11 +136,13 @@ fn put_many(
     ends: &[usize],
     entries: &[u32],
     pool: &[u32],
+    presence: &[u64],
+    ranks: &[u64],
     store: &mut [u8],
     key_ends: &mut [usize],
     valid: &mut [u8],
 ) -> usize
-    requires { ⌜ tableUnder collation (table (now entries) (now pool)) ≡ none ⌝ }
+    requires { ⌜ UsableUnder collation (table (now entries) (now pool)) (pages (now presence) (now ranks)) ⌝ }
     requires { ⌜ Texts (now octets) (now ends) ⌝ }
     requires { ⌜ length (joined (map (keyOf collation (mappingOf (table (now entries) (now pool))))
         (stringsIn (now octets) (now ends)))) ≤ length (now store) ⌝ }
@@ -137,7 +157,15 @@ fn put_many(
     let mut end = 0;
     while i < ends.len() {
         let text = key_at(octets, ends, i);
-        let summary = put_key(collation, text, entries, pool, &mut store[end..]);
+        let summary = put_key(
+            collation,
+            text,
+            entries,
+            pool,
+            presence,
+            ranks,
+            &mut store[end..],
+        );
         end += summary.key_length;
         key_ends[i] = end;
         valid[i] = one_if(summary.valid);

@@ -13,7 +13,8 @@ use terms::Refusal;
 ghost use mathlib.Core.Path.{_≡_};
 ghost use mathlib.Core.List.{[], _∷_};
 ghost use Rattle.terms.specs.Collations.{collationOf};
-ghost use Rattle.many.specs.Many.{manyCall, manyRefusal, PreparesMany};
+ghost use Rattle.pages.specs.Pages.{pages};
+ghost use Rattle.many.specs.Many.{manyCall, PreparesManyPaging};
 
 // What preparing many texts answers.
 pub enum Batch {
@@ -30,19 +31,22 @@ pub fn prepare_many(
     ends: &[usize],
     entries: &[u32],
     pool: &[u32],
+    presence: &mut [u64],
+    ranks: &mut [u64],
     store: &mut [u8],
     key_ends: &mut [usize],
     valid: &mut [u8],
 ) -> Batch
     ensures { λ r. ⌜ (let c = manyCall (collationOf collation) (now (octets .entry)) (now (ends .entry))
-        (now (entries .entry)) (now (pool .entry)) (now (store .entry)) (now («key_ends» .entry)) (now (valid .entry)) in
-        PreparesMany (manyRefusal c) c r (now (store .exit) ∷ now («key_ends» .exit) ∷ now (valid .exit) ∷ [])) ⌝ }
+        (now (entries .entry)) (now (pool .entry)) (now (presence .entry)) (now (ranks .entry)) (now (store .entry)) (now («key_ends» .entry)) (now (valid .entry)) in
+        PreparesManyPaging c r (now (store .exit) ∷ now («key_ends» .exit) ∷ now (valid .exit) ∷ [])
+        (pages (now (presence .exit)) (now (ranks .exit)))) ⌝ }
 {
     let checked = check_many(collation, octets.len(), ends);
     match checked {
         CallCheck::Passed(known) => {
-            // Two empty texts pass 2, so that only the table's checks are left to this call.
-            let called = prepare::check_call(collation, 0, 0, entries, pool);
+            // Two empty texts pass 2, so that only the checks of the table and of the pages are left to this call.
+            let called = prepare::check_call(collation, 0, 0, entries, pool, presence, ranks);
             match called {
                 CallCheck::Passed(_) => fill_many(
                     known,
@@ -50,6 +54,8 @@ pub fn prepare_many(
                     ends,
                     entries,
                     pool,
+                    presence,
+                    ranks,
                     store,
                     key_ends,
                     valid,

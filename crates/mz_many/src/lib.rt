@@ -9,9 +9,10 @@ ghost use mathlib.Core.Path.{_≡_};
 ghost use mathlib.Core.List.{[], _∷_};
 ghost use Rattle.terms.specs.Collations.{collationOf};
 ghost use Rattle.terms.specs.Refusals.{row};
+ghost use Rattle.pages.specs.Pages.{pages};
 ghost use Rattle.many.specs.Many.{manyCall, batchOutcome};
 ghost use Rattle.matching.specs.Matching.{keysCall, matchedOutcome};
-ghost use Rattle.mz_many.specs.Promises.{PreparesManyRow, MatchesRow};
+ghost use Rattle.mz_many.specs.Promises.{PreparesManyRowPaging, MatchesRow};
 
 // Prepares many texts.
 #[no_mangle]
@@ -21,14 +22,17 @@ pub extern "C" fn mz_prepare_many(
     ends: &[usize],
     entries: &[u32],
     pool: &[u32],
+    presence: &mut [u64],
+    ranks: &mut [u64],
     store: &mut [u8],
     key_ends: &mut [usize],
     valid: &mut [u8],
     answer: &mut [u64; 4],
 )
-    ensures { λ _. ⌜ PreparesManyRow (manyCall (collationOf collation) (now (octets .entry)) (now (ends .entry))
-        (now (entries .entry)) (now (pool .entry)) (now (store .entry)) (now («key_ends» .entry)) (now (valid .entry)))
-        (now (answer .exit)) (now (store .exit) ∷ now («key_ends» .exit) ∷ now (valid .exit) ∷ []) ⌝ }
+    ensures { λ _. ⌜ PreparesManyRowPaging (manyCall (collationOf collation) (now (octets .entry)) (now (ends .entry))
+        (now (entries .entry)) (now (pool .entry)) (now (presence .entry)) (now (ranks .entry)) (now (store .entry)) (now («key_ends» .entry)) (now (valid .entry)))
+        (now (answer .exit)) (now (store .exit) ∷ now («key_ends» .exit) ∷ now (valid .exit) ∷ [])
+        (pages (now (presence .exit)) (now (ranks .exit))) ⌝ }
 {
     let batch = many::prepare_many(
         collation,
@@ -36,6 +40,8 @@ pub extern "C" fn mz_prepare_many(
         ends,
         entries,
         pool,
+        presence,
+        ranks,
         store,
         key_ends,
         valid,

@@ -11,7 +11,7 @@ use Rattle.builder.specs.declared.LineState.{LineState}
 
 -- the number of the interface that include/mundeziwa.h describes (document 01 names none)
 abbrev pub interfaceNumber : ℕ
-interfaceNumber = 1
+interfaceNumber = 2
 
 -- "The builder takes a state by value": a state by its three numbers
 abbrev pub stateOf : ℕ → ℕ → ℕ → LineState

@@ -16,7 +16,7 @@ ghost use Rattle.builder.specs.Builder.{built};
 ghost use Rattle.mz_tables.specs.Promises.{interfaceNumber, stateOf, LineAdded};
 
 // The number of the interface: another where a call's parameters or rows are others.
-pub const INTERFACE: u32 = 1;
+pub const INTERFACE: u32 = 2;
 
 // The number of the interface.
 #[no_mangle]

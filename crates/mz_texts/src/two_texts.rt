@@ -2,15 +2,14 @@
 use crate::rows::equality_row;
 use crate::rows::order_row;
 use crate::rows::substring_row;
-ghost use mathlib.Core.Path.{_≡_};
 ghost use mathlib.Core.List.{[], _∷_};
-ghost use mathlib.Core.Option.{none};
 ghost use Rattle.terms.specs.Collations.{collationOf};
 ghost use Rattle.table.specs.Table.{table};
-ghost use Rattle.prepare.specs.Calls.{tableCheck, twoCall};
+ghost use Rattle.pages.specs.Pages.{pages};
+ghost use Rattle.prepare.specs.Calls.{twoCall, UsableBy};
 ghost use Rattle.compare.specs.Compare.{equalityValues, orderValues};
 ghost use Rattle.search.specs.Substring.{soughtValues};
-ghost use Rattle.mz_texts.specs.Promises.{RowAnswered};
+ghost use Rattle.mz_texts.specs.Promises.{RowAnswered, RowPaging};
 
 // Whether two texts are equal under a collation.
 #[no_mangle]
@@ -20,13 +19,16 @@ pub extern "C" fn mz_equal(
     second: &[u8],
     entries: &[u32],
     pool: &[u32],
+    presence: &mut [u64],
+    ranks: &mut [u64],
     first_key: &mut [u8],
     second_key: &mut [u8],
     answer: &mut [u64; 4],
 )
-    ensures { λ _. ⌜ RowAnswered 1 equalityValues (twoCall (collationOf collation) (now (first .entry)) (now (second .entry))
-        (now (entries .entry)) (now (pool .entry)) (now («first_key» .entry)) (now («second_key» .entry))) (now
-        (answer .exit)) (now («first_key» .exit) ∷ now («second_key» .exit) ∷ []) ⌝ }
+    ensures { λ _. ⌜ RowPaging 1 equalityValues (twoCall (collationOf collation) (now (first .entry)) (now (second .entry))
+        (now (entries .entry)) (now (pool .entry)) (now (presence .entry)) (now (ranks .entry)) (now («first_key» .entry)) (now («second_key» .entry))) (now
+        (answer .exit)) (now («first_key» .exit) ∷ now («second_key» .exit) ∷ [])
+        (pages (now (presence .exit)) (now (ranks .exit))) ⌝ }
 {
     let equality = compare::equal(
         collation,
@@ -34,6 +36,8 @@ pub extern "C" fn mz_equal(
         second,
         entries,
         pool,
+        presence,
+        ranks,
         first_key,
         second_key,
     );
@@ -48,13 +52,16 @@ pub extern "C" fn mz_order(
     second: &[u8],
     entries: &[u32],
     pool: &[u32],
+    presence: &mut [u64],
+    ranks: &mut [u64],
     first_key: &mut [u8],
     second_key: &mut [u8],
     answer: &mut [u64; 4],
 )
-    ensures { λ _. ⌜ RowAnswered 1 orderValues (twoCall (collationOf collation) (now (first .entry)) (now (second .entry))
-        (now (entries .entry)) (now (pool .entry)) (now («first_key» .entry)) (now («second_key» .entry))) (now
-        (answer .exit)) (now («first_key» .exit) ∷ now («second_key» .exit) ∷ []) ⌝ }
+    ensures { λ _. ⌜ RowPaging 1 orderValues (twoCall (collationOf collation) (now (first .entry)) (now (second .entry))
+        (now (entries .entry)) (now (pool .entry)) (now (presence .entry)) (now (ranks .entry)) (now («first_key» .entry)) (now («second_key» .entry))) (now
+        (answer .exit)) (now («first_key» .exit) ∷ now («second_key» .exit) ∷ [])
+        (pages (now (presence .exit)) (now (ranks .exit))) ⌝ }
 {
     let ordered = compare::order(
         collation,
@@ -62,6 +69,8 @@ pub extern "C" fn mz_order(
         second,
         entries,
         pool,
+        presence,
+        ranks,
         first_key,
         second_key,
     );
@@ -76,13 +85,16 @@ pub extern "C" fn mz_substring(
     second: &[u8],
     entries: &[u32],
     pool: &[u32],
+    presence: &mut [u64],
+    ranks: &mut [u64],
     first_key: &mut [u8],
     second_key: &mut [u8],
     answer: &mut [u64; 8],
 )
-    ensures { λ _. ⌜ RowAnswered 5 soughtValues (twoCall (collationOf collation) (now (first .entry)) (now (second .entry))
-        (now (entries .entry)) (now (pool .entry)) (now («first_key» .entry)) (now («second_key» .entry))) (now
-        (answer .exit)) (now («first_key» .exit) ∷ now («second_key» .exit) ∷ []) ⌝ }
+    ensures { λ _. ⌜ RowPaging 5 soughtValues (twoCall (collationOf collation) (now (first .entry)) (now (second .entry))
+        (now (entries .entry)) (now (pool .entry)) (now (presence .entry)) (now (ranks .entry)) (now («first_key» .entry)) (now («second_key» .entry))) (now
+        (answer .exit)) (now («first_key» .exit) ∷ now («second_key» .exit) ∷ [])
+        (pages (now (presence .exit)) (now (ranks .exit))) ⌝ }
 {
     let sought = search::substring(
         collation,
@@ -90,13 +102,15 @@ pub extern "C" fn mz_substring(
         second,
         entries,
         pool,
+        presence,
+        ranks,
         first_key,
         second_key,
     );
     *answer = substring_row(sought);
 }
 
-// As `mz_equal`, over a table that is accepted already.
+// As `mz_equal`, over a table that is accepted already, with its pages.
 #[no_mangle]
 pub extern "C" fn mz_equal_accepted(
     collation: u32,
@@ -104,13 +118,15 @@ pub extern "C" fn mz_equal_accepted(
     second: &[u8],
     entries: &[u32],
     pool: &[u32],
+    presence: &[u64],
+    ranks: &[u64],
     first_key: &mut [u8],
     second_key: &mut [u8],
     answer: &mut [u64; 4],
 )
-    requires { ⌜ tableCheck (collationOf collation) (table (now entries) (now pool)) ≡ none ⌝ }
+    requires { ⌜ UsableBy (collationOf collation) (table (now entries) (now pool)) (pages (now presence) (now ranks)) ⌝ }
     ensures { λ _. ⌜ RowAnswered 1 equalityValues (twoCall (collationOf collation) (now (first .entry)) (now (second .entry))
-        (now (entries .entry)) (now (pool .entry)) (now («first_key» .entry)) (now («second_key» .entry))) (now
+        (now (entries .entry)) (now (pool .entry)) (now (presence .entry)) (now (ranks .entry)) (now («first_key» .entry)) (now («second_key» .entry))) (now
         (answer .exit)) (now («first_key» .exit) ∷ now («second_key» .exit) ∷ []) ⌝ }
 {
     let equality = compare::equal_accepted(
@@ -119,13 +135,15 @@ pub extern "C" fn mz_equal_accepted(
         second,
         entries,
         pool,
+        presence,
+        ranks,
         first_key,
         second_key,
     );
     *answer = equality_row(equality);
 }
 
-// As `mz_order`, over a table that is accepted already.
+// As `mz_order`, over a table that is accepted already, with its pages.
 #[no_mangle]
 pub extern "C" fn mz_order_accepted(
     collation: u32,
@@ -133,13 +151,15 @@ pub extern "C" fn mz_order_accepted(
     second: &[u8],
     entries: &[u32],
     pool: &[u32],
+    presence: &[u64],
+    ranks: &[u64],
     first_key: &mut [u8],
     second_key: &mut [u8],
     answer: &mut [u64; 4],
 )
-    requires { ⌜ tableCheck (collationOf collation) (table (now entries) (now pool)) ≡ none ⌝ }
+    requires { ⌜ UsableBy (collationOf collation) (table (now entries) (now pool)) (pages (now presence) (now ranks)) ⌝ }
     ensures { λ _. ⌜ RowAnswered 1 orderValues (twoCall (collationOf collation) (now (first .entry)) (now (second .entry))
-        (now (entries .entry)) (now (pool .entry)) (now («first_key» .entry)) (now («second_key» .entry))) (now
+        (now (entries .entry)) (now (pool .entry)) (now (presence .entry)) (now (ranks .entry)) (now («first_key» .entry)) (now («second_key» .entry))) (now
         (answer .exit)) (now («first_key» .exit) ∷ now («second_key» .exit) ∷ []) ⌝ }
 {
     let ordered = compare::order_accepted(
@@ -148,13 +168,15 @@ pub extern "C" fn mz_order_accepted(
         second,
         entries,
         pool,
+        presence,
+        ranks,
         first_key,
         second_key,
     );
     *answer = order_row(ordered);
 }
 
-// As `mz_substring`, over a table that is accepted already.
+// As `mz_substring`, over a table that is accepted already, with its pages.
 #[no_mangle]
 pub extern "C" fn mz_substring_accepted(
     collation: u32,
@@ -162,13 +184,15 @@ pub extern "C" fn mz_substring_accepted(
     second: &[u8],
     entries: &[u32],
     pool: &[u32],
+    presence: &[u64],
+    ranks: &[u64],
     first_key: &mut [u8],
     second_key: &mut [u8],
     answer: &mut [u64; 8],
 )
-    requires { ⌜ tableCheck (collationOf collation) (table (now entries) (now pool)) ≡ none ⌝ }
+    requires { ⌜ UsableBy (collationOf collation) (table (now entries) (now pool)) (pages (now presence) (now ranks)) ⌝ }
     ensures { λ _. ⌜ RowAnswered 5 soughtValues (twoCall (collationOf collation) (now (first .entry)) (now (second .entry))
-        (now (entries .entry)) (now (pool .entry)) (now («first_key» .entry)) (now («second_key» .entry))) (now
+        (now (entries .entry)) (now (pool .entry)) (now (presence .entry)) (now (ranks .entry)) (now («first_key» .entry)) (now («second_key» .entry))) (now
         (answer .exit)) (now («first_key» .exit) ∷ now («second_key» .exit) ∷ []) ⌝ }
 {
     let sought = search::substring_accepted(
@@ -177,6 +201,8 @@ pub extern "C" fn mz_substring_accepted(
         second,
         entries,
         pool,
+        presence,
+        ranks,
         first_key,
         second_key,
     );

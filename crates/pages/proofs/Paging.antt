@@ -4,19 +4,21 @@ use mathlib.Core.Path.{_≡_, refl, sym, ap, ap₂, _∙_}
 use Prim.Native.Nat.{ℕ, zero, suc, _+_, _-_, _*_, _/_, _%_, _^_, _≤_, _<_}
 use native.Mathlib.Omega.{arith}
 use native.Mathlib.Decide.{ℕ-discrete}
-use mathlib.Core.Bool.{Bool, true, false}
+use mathlib.Core.Bool.{Bool, true, false, true≢false}
+use mathlib.Core.Logic.{_↔_}
 use mathlib.Core.List.{List, [], _∷_, _++_}
 use lib.Count.{ones}
-use mathlib.Core.Option.{none, some}
+use mathlib.Core.Option.{Option, none, some}
 use lib.Dec.{eqb, ltb}
 use lib.ListN.{length, getD, length-append, List·getD-append}
 use lib.Seq.{getD-at}
-use Rattle.terms.specs.Lists.{when, over}
+use Rattle.terms.specs.Lists.{there, when, over}
 use Rattle.terms.specs.Refusals.{pagesMost}
 use Rattle.terms.proofs.Parts.{length-over}
 use Rattle.table.specs.Layout.{entryCount, codeAt}
 use Rattle.table.specs.Table.{entryOf}
 use Rattle.table.specs.Promises.{Ascending}
+use Rattle.table.proofs.Form.{entryOf-some, entryOf-gone}
 use Rattle.pages.specs.Pages.{digit, wordOf, counted, pageSize, presenceWord, rankOf, upTo, Pages, filled, pagedPlace}
 use Rattle.pages.specs.Promises.{Paged}
 use Rattle.pages.proofs.Words.{counted-most, word-bit, word-low, ones-word}
@@ -42,6 +44,23 @@ module _ (es : List ℕ) (page bit : ℕ) (h : bit < pageSize) where
       ap (λ (k : ℕ). ones (wordOf test k % 2 ^ bit)) size
       ∙ ap ones (word-low test bit (pageSize - bit))
       ∙ ones-word test bit
+
+-- a code point has an entry exactly when it is one's
+pub listed-exactly : (es : List ℕ) (c : ℕ) → (listed es c ≡ true) ↔ ((i : ℕ) × (i < entryCount es) × (codeAt es i ≡ c))
+listed-exactly es c = (λ e. found (entryOf es c) refl e, λ h. there-is (entryOf es c) refl h)
+  where
+    found : (o : Option ℕ) → entryOf es c ≡ o → there o ≡ true → (i : ℕ) × (i < entryCount es) × (codeAt es i ≡ c)
+    found none e f = absurd (true≢false (sym f))
+    found (some i) e f = let is = entryOf-some es c i e in (i, is .0, is .1)
+
+    there-is : (o : Option ℕ) → entryOf es c ≡ o → ((i : ℕ) × (i < entryCount es) × (codeAt es i ≡ c)) → there o ≡ true
+    there-is (some i) e h = refl
+    there-is none e h = absurd (entryOf-gone es c e (h .0) (h .1) (h .2))
+
+-- a digit is 1 exactly when the test holds
+pub digit-exactly : (b : Bool) → (digit b ≡ 1) ↔ (b ≡ true)
+digit-exactly true = (λ e. refl, λ e. refl)
+digit-exactly false = (λ e. absurd (omega arith), λ e. absurd (true≢false (sym e)))
 
 -- ---- a place by pages
 
@@ -101,14 +120,19 @@ getD-upTo f (suc n) i h = go (ℕ-discrete i n) (getD-upTo f n i)
         ap (λ (k : ℕ). getD (upTo f n ++ f n ∷ []) k 0) e ∙ getD-at (upTo f n) (f n) [] 0 n (length-upTo f n) ∙ ap f (sym e)
     go (no ne) rest = List·getD-append (upTo f n) _ 0 i (omega (arith, length-upTo f n)) ∙ rest (omega arith)
 
+-- a number of a slice that was filled
+pub getD-filled : (f : ℕ → ℕ) (row : List ℕ) (page : ℕ) → page < pagesMost → getD (over (upTo f pagesMost) row) page 0 ≡ f page
+getD-filled f row page h =
+    List·getD-append (upTo f pagesMost) _ 0 page (omega (arith, length-upTo f pagesMost)) ∙ getD-upTo f pagesMost page h
+
 -- slices of the length asked for hold the pages once they were filled
 pub filled-paged : (es : List ℕ) (p : Pages) → pagesMost ≤ length (p .presence) → pagesMost ≤ length (p .ranks)
     → Paged es (filled es p)
 filled-paged es p a b = record {
   presence-long = long (presenceWord es) (p .presence) a;
   ranks-long = long (rankOf es) (p .ranks) b;
-  words = there (presenceWord es) (p .presence);
-  numbers = there (rankOf es) (p .ranks);
+  words = getD-filled (presenceWord es) (p .presence);
+  numbers = getD-filled (rankOf es) (p .ranks);
 }
   where
     -- a slice is as long as before
@@ -116,8 +140,3 @@ filled-paged es p a b = record {
     long f row h =
         let size = length-upTo f pagesMost in
         omega (arith, length-over (upTo f pagesMost) row (omega (arith, size)))
-
-    -- and holds the numbers
-    there : (f : ℕ → ℕ) (row : List ℕ) (page : ℕ) → page < pagesMost → getD (over (upTo f pagesMost) row) page 0 ≡ f page
-    there f row page h =
-        List·getD-append (upTo f pagesMost) _ 0 page (omega (arith, length-upTo f pagesMost)) ∙ getD-upTo f pagesMost page h

@@ -13,6 +13,7 @@ use Rattle.terms.specs.Refusals.{check, first, Outcome, refused}
 use Rattle.terms.specs.declared.Collation.the-variants.{UnicodeCasemap}
 use Rattle.terms.specs.declared.Refusal.{Refusal}
 use Rattle.table.specs.Table.{Table}
+use Rattle.pages.specs.Pages.{Pages}
 use Rattle.prepare.specs.Calls.{Call, call, lent, callRefusal, answerOf, buffersAfter}
 use Rattle.compare.specs.Compare.{orderValues}
 
@@ -38,14 +39,14 @@ pub record CutAtTab (line : List ℕ) : Type 0 where
   pub whole : line ≡ take at line ++ (0x09 ∷ drop (suc at) line)
 
 -- what stands before a place of a line, and what stands after it, compared under i;unicode-casemap
-abbrev pub callAround : List ℕ → Table → List ℕ → List ℕ → ℕ → Call
-callAround line t firstBuffer secondBuffer at =
-    call (some UnicodeCasemap) t (lent (take at line) firstBuffer ∷ lent (drop (suc at) line) secondBuffer ∷ [])
+abbrev pub callAround : List ℕ → Table → Pages → List ℕ → List ℕ → ℕ → Call
+callAround line t p firstBuffer secondBuffer at =
+    call (some UnicodeCasemap) t p (lent (take at line) firstBuffer ∷ lent (drop (suc at) line) secondBuffer ∷ [])
 
 -- the call that a line with a tab at a place is; without a tab it is none
-abbrev pub callAt : List ℕ → Table → List ℕ → List ℕ → Option ℕ → Option Call
-callAt line t firstBuffer secondBuffer none = none
-callAt line t firstBuffer secondBuffer (some at) = some (callAround line t firstBuffer secondBuffer at)
+abbrev pub callAt : List ℕ → Table → Pages → List ℕ → List ℕ → Option ℕ → Option Call
+callAt line t p firstBuffer secondBuffer none = none
+callAt line t p firstBuffer secondBuffer (some at) = some (callAround line t p firstBuffer secondBuffer at)
 
 -- ---- the answer
 
@@ -67,10 +68,10 @@ buffersLeft none none before = before
 buffersLeft none (some c) before = buffersAfter (callRefusal c) c
 
 -- the answer for a line
-unfoldable pub pairAnswer : List ℕ → Table → List ℕ → List ℕ → Option Outcome
-pairAnswer line t firstBuffer secondBuffer = judged (pairRefusal line) (callAt line t firstBuffer secondBuffer (tabOf line))
+unfoldable pub pairAnswer : List ℕ → Table → Pages → List ℕ → List ℕ → Option Outcome
+pairAnswer line t p firstBuffer secondBuffer = judged (pairRefusal line) (callAt line t p firstBuffer secondBuffer (tabOf line))
 
 -- the two key buffers after it
-unfoldable pub pairBuffers : List ℕ → Table → List ℕ → List ℕ → List (List ℕ)
-pairBuffers line t firstBuffer secondBuffer =
-    buffersLeft (pairRefusal line) (callAt line t firstBuffer secondBuffer (tabOf line)) (firstBuffer ∷ secondBuffer ∷ [])
+unfoldable pub pairBuffers : List ℕ → Table → Pages → List ℕ → List ℕ → List (List ℕ)
+pairBuffers line t p firstBuffer secondBuffer =
+    buffersLeft (pairRefusal line) (callAt line t p firstBuffer secondBuffer (tabOf line)) (firstBuffer ∷ secondBuffer ∷ [])

@@ -5,6 +5,7 @@ use Prim.Native.Nat.{ℕ}
 use mathlib.Core.Option.{Option, none, some}
 use mathlib.Core.List.{List}
 use Rattle.table.specs.Table.{Table}
+use Rattle.pages.specs.Pages.{Pages}
 use Rattle.compare.specs.Compare.{orderOutcome}
 use Rattle.compare.specs.declared.Ordered.{Ordered}
 use Rattle.pairing.specs.Pairing.{pairAnswer, pairBuffers}
@@ -17,7 +18,7 @@ tabFound (At i) = some i
 tabFound Nowhere = none
 
 -- a line was judged: the answer, and both key buffers
-pub record Judges (line : List ℕ) (t : Table) (firstBuffer secondBuffer : List ℕ) (r : Ordered)
+pub record Judges (line : List ℕ) (t : Table) (p : Pages) (firstBuffer secondBuffer : List ℕ) (r : Ordered)
     (after : List (List ℕ)) : Type 0 where
-  pub answered : some (orderOutcome r) ≡ pairAnswer line t firstBuffer secondBuffer
-  pub left : after ≡ pairBuffers line t firstBuffer secondBuffer
+  pub answered : some (orderOutcome r) ≡ pairAnswer line t p firstBuffer secondBuffer
+  pub left : after ≡ pairBuffers line t p firstBuffer secondBuffer

@@ -12,12 +12,12 @@ pub use words::put_heading;
 pub use words::put_table_refusal;
 ghost use mathlib.Core.Path.{_≡_};
 ghost use mathlib.Core.List.{[], _∷_};
-ghost use mathlib.Core.Option.{none};
 ghost use Prim.Native.Nat.{_<_};
 ghost use lib.ListN.{length};
 ghost use Rattle.terms.specs.Refusals.{refused, refusal};
 ghost use Rattle.table.specs.Table.{table};
-ghost use Rattle.decompose.specs.TableCheck.{tableRefusal};
+ghost use Rattle.pages.specs.Pages.{pages};
+ghost use Rattle.decompose.specs.TableCheck.{Usable};
 ghost use Rattle.prepare.specs.Calls.{Called};
 ghost use Rattle.compare.specs.Compare.{orderOutcome, orderValues};
 ghost use Rattle.pairing.specs.Pairing.{tabOf, callAround};
@@ -35,25 +35,36 @@ pub enum Tab {
     Nowhere,
 }
 
-// How the two texts of a line are ordered, or which number refuses it, over a table that is accepted. The keys are left as by
+// How the two texts of a line are ordered, or which number refuses it, over a table that is accepted, with its pages. The keys are left as by
 // `compare::order` where the texts are compared; else both buffers stay.
 pub fn judge(
     line: &[u8],
     entries: &[u32],
     pool: &[u32],
+    presence: &[u64],
+    ranks: &[u64],
     first_key: &mut [u8],
     second_key: &mut [u8],
 ) -> Ordered
-    requires { ⌜ tableRefusal (table (now entries) (now pool)) ≡ none ⌝ }
-    ensures { λ r. ⌜ Judges (now (line .entry)) (table (now (entries .entry)) (now (pool .entry))) (now («first_key» .entry))
-        (now («second_key» .entry)) r (now («first_key» .exit) ∷ now («second_key» .exit) ∷ []) ⌝ }
+    requires { ⌜ Usable (table (now entries) (now pool)) (pages (now presence) (now ranks)) ⌝ }
+    ensures { λ r. ⌜ Judges (now (line .entry)) (table (now (entries .entry)) (now (pool .entry)))
+        (pages (now (presence .entry)) (now (ranks .entry))) (now («first_key» .entry)) (now («second_key» .entry)) r (now («first_key» .exit) ∷ now («second_key» .exit) ∷ []) ⌝ }
 {
     if PAIR_MOST < line.len() {
         return refuse(terms::REFUSED_TEXT_LENGTH);
     }
     let tab = find_tab(line);
     match tab {
-        Tab::At(at) => order_around(line, at, entries, pool, first_key, second_key),
+        Tab::At(at) => order_around(
+            line,
+            at,
+            entries,
+            pool,
+            presence,
+            ranks,
+            first_key,
+            second_key,
+        ),
         Tab::Nowhere => refuse(terms::REFUSED_NO_TAB),
     }
 }
@@ -64,12 +75,15 @@ fn order_around(
     at: usize,
     entries: &[u32],
     pool: &[u32],
+    presence: &[u64],
+    ranks: &[u64],
     first_key: &mut [u8],
     second_key: &mut [u8],
 ) -> Ordered
-    requires { ⌜ (at < length (now line)) × (tableRefusal (table (now entries) (now pool)) ≡ none) ⌝ }
+    requires { ⌜ (at < length (now line)) × Usable (table (now entries) (now pool)) (pages (now presence) (now ranks)) ⌝ }
     ensures { λ r. ⌜ Called orderOutcome orderValues (callAround (now (line .entry))
-        (table (now (entries .entry)) (now (pool .entry))) (now («first_key» .entry)) (now («second_key» .entry)) at) r (now
+        (table (now (entries .entry)) (now (pool .entry))) (pages (now (presence .entry)) (now (ranks .entry)))
+        (now («first_key» .entry)) (now («second_key» .entry)) at) r (now
         («first_key» .exit) ∷ now («second_key» .exit) ∷ []) ⌝ }
 {
     let next = at + 1;
@@ -79,6 +93,8 @@ fn order_around(
         &line[next..],
         entries,
         pool,
+        presence,
+        ranks,
         first_key,
         second_key,
     )

@@ -9,7 +9,8 @@ ghost use mathlib.Core.Option.{none};
 ghost use Prim.Native.Nat.{_≤_};
 ghost use lib.ListN.{length};
 ghost use Rattle.table.specs.Table.{table};
-ghost use Rattle.decompose.specs.TableCheck.{tableRefusal};
+ghost use Rattle.pages.specs.Pages.{pages};
+ghost use Rattle.decompose.specs.TableCheck.{Usable};
 ghost use Rattle.pairs.specs.Reading.{Stands, Answers, linesMost};
 
 // Room for a key, in octets.
@@ -24,8 +25,15 @@ pub enum Answered {
 }
 
 // Answers every line of an input: the heading, a line for each, and the count.
-pub fn answer_all(fd: i32, buffer: &mut [u8], entries: &[u32], pool: &[u32])
-    requires { ⌜ tableRefusal (table (now entries) (now pool)) ≡ none ⌝ }
+pub fn answer_all(
+    fd: i32,
+    buffer: &mut [u8],
+    entries: &[u32],
+    pool: &[u32],
+    presence: &[u64],
+    ranks: &[u64],
+)
+    requires { ⌜ Usable (table (now entries) (now pool)) (pages (now presence) (now ranks)) ⌝ }
 {
     let mut out = io::large_buffer();
     let mut first_key = [0u8; KEY_OCTETS];
@@ -35,6 +43,8 @@ pub fn answer_all(fd: i32, buffer: &mut [u8], entries: &[u32], pool: &[u32])
         buffer,
         entries,
         pool,
+        presence,
+        ranks,
         &mut first_key,
         &mut second_key,
         &mut out,
@@ -47,17 +57,29 @@ fn answer_lines(
     buffer: &mut [u8],
     entries: &[u32],
     pool: &[u32],
+    presence: &[u64],
+    ranks: &[u64],
     first_key: &mut [u8],
     second_key: &mut [u8],
     out: &mut [u8],
 )
-    requires { ⌜ (tableRefusal (table (now entries) (now pool)) ≡ none) × (linesMost ≤ length (now out)) ⌝ }
+    requires { ⌜ Usable (table (now entries) (now pool)) (pages (now presence) (now ranks)) × (linesMost ≤ length (now out)) ⌝ }
 {
     let mut reader = Reader::new();
     let mut output = output::start(out);
     let mut count: u64 = 0;
     loop {
-        let answered = answer_next(fd, buffer, reader, entries, pool, first_key, second_key);
+        let answered = answer_next(
+            fd,
+            buffer,
+            reader,
+            entries,
+            pool,
+            presence,
+            ranks,
+            first_key,
+            second_key,
+        );
         match answered {
             Answered::Answer(answer, rest) => {
                 output = output::add_answer(answer, out, output);
@@ -85,17 +107,27 @@ fn answer_next(
     reader: Reader,
     entries: &[u32],
     pool: &[u32],
+    presence: &[u64],
+    ranks: &[u64],
     first_key: &mut [u8],
     second_key: &mut [u8],
 ) -> Answered
-    requires { ⌜ Stands (length (now buffer)) reader × (tableRefusal (table (now entries) (now pool)) ≡ none) ⌝ }
+    requires { ⌜ Stands (length (now buffer)) reader × Usable (table (now entries) (now pool)) (pages (now presence) (now ranks)) ⌝ }
     ensures { λ r. ⌜ Answers (length (now (buffer .entry))) (reader .left) r ⌝ }
 {
     let next = reader::next_line(fd, buffer, reader);
     match next {
         Next::Line(start, end, rest) => {
             let line = &buffer[start..end];
-            let answer = pairing::judge(line, entries, pool, first_key, second_key);
+            let answer = pairing::judge(
+                line,
+                entries,
+                pool,
+                presence,
+                ranks,
+                first_key,
+                second_key,
+            );
             Answered::Answer(answer, rest)
         }
         Next::Long(rest) => Answered::Answer(pairing::refuse(terms::REFUSED_TEXT_LENGTH), rest),

@@ -12,6 +12,10 @@ use crate::growing::Grown;
 use builder::LineState;
 use libc::STDIN_FILENO;
 use terms::Check;
+ghost use mathlib.Core.Path.{_≡_};
+ghost use mathlib.Core.Option.{none};
+ghost use Rattle.table.specs.Table.{table};
+ghost use Rattle.decompose.specs.TableCheck.{tableRefusal};
 ghost use Rattle.builder.specs.Builder.{built};
 ghost use Rattle.builder.specs.Promises.{UsedFits};
 
@@ -49,7 +53,17 @@ fn start(state: LineState, buffer: &mut [u8], entries: &[u32], pool: &[u32])
 fn run(buffer: &mut [u8], entries: &[u32], pool: &[u32]) {
     let check = decompose::check_table(entries, pool);
     match check {
-        Check::Passed => answers::answer_all(STDIN_FILENO, buffer, entries, pool),
+        Check::Passed => answer(buffer, entries, pool),
         Check::Refused(r) => output::refuse_table(r.number),
     }
+}
+
+// Fills the pages of an accepted table, and answers all lines.
+fn answer(buffer: &mut [u8], entries: &[u32], pool: &[u32])
+    requires { ⌜ tableRefusal (table (now entries) (now pool)) ≡ none ⌝ }
+{
+    let mut presence = [0u64; terms::PAGES_MOST];
+    let mut ranks = [0u64; terms::PAGES_MOST];
+    pages::fill_pages(entries, &mut presence, &mut ranks);
+    answers::answer_all(STDIN_FILENO, buffer, entries, pool, &presence, &ranks);
 }

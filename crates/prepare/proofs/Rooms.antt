@@ -1,4 +1,4 @@
--- What is left of a call that passed 1 to 7: a summary's numbers say which refusal 8 is, and keys that were written answer
+-- What is left of a call that passed 1 to 7 and 15: a summary's numbers say which refusal 8 is, and keys that were written answer
 -- the call.
 -- Assumes nothing.
 use mathlib.Core.Path.{_≡_, refl, sym, ap, ap₂, _∙_}
@@ -16,6 +16,7 @@ use Rattle.terms.specs.declared.Refusal.{Refusal}
 use Rattle.terms.proofs.Checks.{orElse-none, when-none}
 use Rattle.utf8.specs.Utf8.{characters}
 use Rattle.table.specs.Table.{Table, mappingOf}
+use Rattle.pages.specs.Pages.{Pages}
 use Rattle.keys.specs.Keys.{PreparedText, prepared, roomFor, keyed, unicodePrepared, tableUnder}
 use Rattle.keys.specs.Summaries.{truth, placeNumber, summaryNumbers, preparedNumbers, KeyFilled}
 use Rattle.keys.specs.declared.KeyPlace.{KeyPlace}
@@ -87,58 +88,58 @@ filled-written {k} {t} {place} {l} {s} table r filled =
 -- ---- one text
 
 -- the refusal of one text for its key's room
-roomRefusal-one : (k : Collation) (t : Table) (l : Lent) (s : Summary)
+roomRefusal-one : (k : Collation) (t : Table) (p : Pages) (l : Lent) (s : Summary)
     → summaryNumbers s ≡ preparedNumbers (prepared k (mappingOf t) (l .text))
-    → roomRefusal (call (some k) t (l ∷ [])) ≡ roomNeeded 1 (length (l .buffer)) s
-roomRefusal-one k t l s sized =
-    let p = prepared k (mappingOf t) (l .text) in
-    orElse-none (roomCheck 1 (length (l .buffer)) p) ∙ sym (roomNeeded-roomCheck p s sized 1 (length (l .buffer)))
+    → roomRefusal (call (some k) t p (l ∷ [])) ≡ roomNeeded 1 (length (l .buffer)) s
+roomRefusal-one k t p l s sized =
+    let x = prepared k (mappingOf t) (l .text) in
+    orElse-none (roomCheck 1 (length (l .buffer)) x) ∙ sym (roomNeeded-roomCheck x s sized 1 (length (l .buffer)))
 
-module _ {k : Collation} {t : Table} {l : Lent} where
+module _ {k : Collation} {t : Table} {p : Pages} {l : Lent} where
   -- there was room, and the key was written
   pub one-written : {s : Summary} {after : List ℕ} → tableUnder k t ≡ none → Written k t 1 l s after
-      → PreparesReady (call (some k) t (l ∷ [])) (Prepared s) after
+      → PreparesReady (call (some k) t p (l ∷ [])) (Prepared s) after
   unfolding total
   one-written {s} table w =
-      let p = prepared k (mappingOf t) (l .text) in
+      let x = prepared k (mappingOf t) (l .text) in
       record {
         call = record {
-          answered = rw (roomRefusal-one k t l s (w .sized), w .room, w .sized);
-          left = rw (roomRefusal-one k t l s (w .sized), w .room) (ap (λ (b : List ℕ). b ∷ []) (w .left));
+          answered = rw (roomRefusal-one k t p l s (w .sized), w .room, w .sized);
+          left = rw (roomRefusal-one k t p l s (w .sized), w .room) (ap (λ (b : List ℕ). b ∷ []) (w .left));
         };
-        most = omega (arith, summary-count p s (w .sized), prepared-count k t (l .text) table);
+        most = omega (arith, summary-count x s (w .sized), prepared-count k t (l .text) table);
       }
 
   -- there was too little
   pub one-refused : (s : Summary) (x : Refusal) → summaryNumbers s ≡ preparedNumbers (prepared k (mappingOf t) (l .text))
       → roomNeeded 1 (length (l .buffer)) s ≡ some x
-      → PreparesReady (call (some k) t (l ∷ [])) (Refused x) (l .buffer)
+      → PreparesReady (call (some k) t p (l ∷ [])) (Refused x) (l .buffer)
   one-refused s x sized room = record {
-    call = record { answered = rw (roomRefusal-one k t l s sized, room); left = rw (roomRefusal-one k t l s sized, room) };
+    call = record { answered = rw (roomRefusal-one k t p l s sized, room); left = rw (roomRefusal-one k t p l s sized, room) };
     most = zero-le;
   }
 
 -- ---- two texts
 
 -- the refusal of two texts for their keys' room: the first key, then the second
-roomRefusal-two : (k : Collation) (t : Table) (l m : Lent) (one two : Summary)
+roomRefusal-two : (k : Collation) (t : Table) (p : Pages) (l m : Lent) (one two : Summary)
     → summaryNumbers one ≡ preparedNumbers (prepared k (mappingOf t) (l .text))
     → summaryNumbers two ≡ preparedNumbers (prepared k (mappingOf t) (m .text))
-    → roomRefusal (call (some k) t (l ∷ m ∷ []))
+    → roomRefusal (call (some k) t p (l ∷ m ∷ []))
     ≡ orElse (roomNeeded 1 (length (l .buffer)) one) (roomNeeded 2 (length (m .buffer)) two)
-roomRefusal-two k t l m one two sized sized2 =
+roomRefusal-two k t p l m one two sized sized2 =
     rw (
       orElse-none (roomCheck 2 (length (m .buffer)) (prepared k (mappingOf t) (m .text))),
       roomNeeded-roomCheck (prepared k (mappingOf t) (l .text)) one sized 1 (length (l .buffer)),
       roomNeeded-roomCheck (prepared k (mappingOf t) (m .text)) two sized2 2 (length (m .buffer)),
     )
 
-module _ {k : Collation} {t : Table} {l m : Lent} where
+module _ {k : Collation} {t : Table} {p : Pages} {l m : Lent} where
   -- there was room for both, and both were written
   pub two-written : {one two : Summary} {sAfter tAfter : List ℕ} → Written k t 1 l one sAfter → Written k t 2 m two tAfter
-      → CalledReady pairOutcome preparedValues (call (some k) t (l ∷ m ∷ [])) (Both one two) (sAfter ∷ tAfter ∷ [])
+      → CalledReady pairOutcome preparedValues (call (some k) t p (l ∷ m ∷ [])) (Both one two) (sAfter ∷ tAfter ∷ [])
   two-written {one} {two} w v =
-      let rooms = roomRefusal-two k t l m one two (w .sized) (v .sized) in
+      let rooms = roomRefusal-two k t p l m one two (w .sized) (v .sized) in
       record {
         answered = rw (rooms, w .room, v .room) (ap₂ (λ (a b : List ℕ). some (gives (a ++ b ++ []))) (w .sized) (v .sized));
         left = rw (rooms, w .room, v .room) (ap₂ (λ (a b : List ℕ). a ∷ b ∷ []) (w .left) (v .left));
@@ -148,8 +149,8 @@ module _ {k : Collation} {t : Table} {l m : Lent} where
   pub two-refused : (one two : Summary) (x : Refusal) → summaryNumbers one ≡ preparedNumbers (prepared k (mappingOf t) (l .text))
       → summaryNumbers two ≡ preparedNumbers (prepared k (mappingOf t) (m .text))
       → orElse (roomNeeded 1 (length (l .buffer)) one) (roomNeeded 2 (length (m .buffer)) two) ≡ some x
-      → CalledReady pairOutcome preparedValues (call (some k) t (l ∷ m ∷ [])) (Neither x) (l .buffer ∷ m .buffer ∷ [])
+      → CalledReady pairOutcome preparedValues (call (some k) t p (l ∷ m ∷ [])) (Neither x) (l .buffer ∷ m .buffer ∷ [])
   two-refused one two x sized sized2 room = record {
-    answered = rw (roomRefusal-two k t l m one two sized sized2, room);
-    left = rw (roomRefusal-two k t l m one two sized sized2, room);
+    answered = rw (roomRefusal-two k t p l m one two sized sized2, room);
+    left = rw (roomRefusal-two k t p l m one two sized sized2, room);
   }

@@ -8,6 +8,7 @@ use Rattle.terms.specs.Refusals.{refused, gives}
 use Rattle.terms.specs.declared.Collation.{Collation}
 use Rattle.terms.specs.declared.Refusal.{Refusal}
 use Rattle.table.specs.Table.{Table, mappingOf}
+use Rattle.pages.specs.Pages.{Pages}
 use Rattle.keys.specs.Keys.{prepared, keyOf, keyed}
 use Rattle.keys.specs.Summaries.{shownAt}
 use Rattle.keys.specs.declared.Summary.{Summary}
@@ -23,10 +24,10 @@ use Rattle.prepare.proofs.Answering.{answered-gives}
 
 -- ---- one text
 
-module _ {k : Collation} {t : Table} {l : Lent} {r : Preparation} {after : List ℕ}
-    (h : Prepares (call (some k) t (l ∷ [])) r after) where
+module _ {k : Collation} {t : Table} {p : Pages} {l : Lent} {r : Preparation} {after : List ℕ}
+    (h : Prepares (call (some k) t p (l ∷ [])) r after) where
   -- a text that was prepared shows its key
-  pub shown-key : callRefusal (call (some k) t (l ∷ [])) ≡ none → shownKey r (l .text) after ≡ keyOf k (mappingOf t) (l .text)
+  pub shown-key : callRefusal (call (some k) t p (l ∷ [])) ≡ none → shownKey r (l .text) after ≡ keyOf k (mappingOf t) (l .text)
   shown-key e = go r (rw e at (h .call .answered)) (rw e at (h .call .left))
     where
       go : (x : Preparation) → some (preparationOutcome x) ≡ some (gives (numbersOf (prepared k (mappingOf t) (l .text) ∷ [])))
@@ -38,7 +39,7 @@ module _ {k : Collation} {t : Table} {l : Lent} {r : Preparation} {after : List 
       go (Refused x) told left = cc
 
   -- "On refusal .. a shown key is empty"
-  pub shown-refused : (x : Refusal) → callRefusal (call (some k) t (l ∷ [])) ≡ some x → shownKey r (l .text) after ≡ []
+  pub shown-refused : (x : Refusal) → callRefusal (call (some k) t p (l ∷ [])) ≡ some x → shownKey r (l .text) after ≡ []
   shown-refused x e = go r (rw e at (h .call .answered))
     where
       go : (y : Preparation) → some (preparationOutcome y) ≡ some (refused x) → shownKey y (l .text) after ≡ []
@@ -53,9 +54,9 @@ pub record ShownBoth (k : Collation) (t : Table) (l m : Lent) (one two : Summary
   pub second : shownAt (two .place) (two .«key_length») (m .text) tAfter ≡ keyOf k (mappingOf t) (m .text)
   pub valid : two .valid ≡ prepared k (mappingOf t) (m .text) .valid
 
-module _ {k : Collation} {t : Table} {l m : Lent} {x : Option Refusal} {r : PreparedPair} {sAfter tAfter : List ℕ}
+module _ {k : Collation} {t : Table} {p : Pages} {l m : Lent} {x : Option Refusal} {r : PreparedPair} {sAfter tAfter : List ℕ}
     {one two : Summary}
-    (h : Answers pairOutcome preparedValues x (call (some k) t (l ∷ m ∷ [])) r (sAfter ∷ tAfter ∷ []))
+    (h : Answers pairOutcome preparedValues x (call (some k) t p (l ∷ m ∷ [])) r (sAfter ∷ tAfter ∷ []))
     (e : r ≡ Both one two) where
   -- nothing was refused
   pub both-unrefused : x ≡ none

@@ -1,5 +1,6 @@
 -- What preparing a text answers, in the paper's numbers, and the key that it shows.
 -- Assumes nothing.
+use mathlib.Core.Path.{_≡_}
 use Prim.Native.Nat.{ℕ, _*_, _≤_}
 use mathlib.Core.Option.{Option, some}
 use mathlib.Core.List.{List, [], _∷_, _++_}
@@ -9,7 +10,8 @@ use Rattle.terms.specs.declared.Refusal.{Refusal}
 use Rattle.utf8.specs.Utf8.{characters}
 use Rattle.keys.specs.Keys.{PreparedText}
 use Rattle.keys.specs.Summaries.{summaryNumbers, preparedNumbers, shownAt, characterCount}
-use Rattle.prepare.specs.Calls.{Call, preparedIn, roomRefusal, callRefusal, Answers}
+use Rattle.pages.specs.Pages.{Pages}
+use Rattle.prepare.specs.Calls.{Call, preparedIn, roomRefusal, callRefusal, pagesAfter, Answers}
 use Rattle.prepare.specs.declared.Preparation.{Preparation}
 use Rattle.prepare.specs.declared.Preparation.the-variants.{Prepared, Refused}
 use Rattle.prepare.specs.declared.PreparedPair.{PreparedPair}
@@ -56,6 +58,11 @@ pub record PreparesBy (x : Option Refusal) (c : Call) (r : Preparation) (after :
 
 abbrev pub Prepares : Call → Preparation → List ℕ → Type 0
 Prepares c r after = PreparesBy (callRefusal c) c r after
+
+-- and was lent the pages to fill
+pub record PreparesPaging (c : Call) (r : Preparation) (after : List ℕ) (p : Pages) : Type 0 where
+  pub prepares : Prepares c r after
+  pub paged : p ≡ pagesAfter c
 
 abbrev pub PreparesReady : Call → Preparation → List ℕ → Type 0
 PreparesReady c r after = PreparesBy (roomRefusal c) c r after

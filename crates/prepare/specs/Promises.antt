@@ -5,14 +5,16 @@ use Prim.Native.Nat.{ℕ}
 use mathlib.Core.Option.{Option, none, some}
 use mathlib.Core.List.{[], _∷_}
 use lib.Dec.{ltb}
-use Rattle.terms.specs.Refusals.{check}
+use Rattle.terms.specs.Refusals.{check, checkRefusal}
+use Rattle.terms.specs.declared.Check.{Check}
 use Rattle.terms.specs.declared.Collation.{Collation}
 use Rattle.terms.specs.declared.Refusal.{Refusal}
 use Rattle.table.specs.Table.{Table}
+use Rattle.pages.specs.Pages.{Pages}
 use Rattle.keys.specs.declared.KeyPlace.{KeyPlace}
 use Rattle.keys.specs.declared.KeyPlace.the-variants.{Text, Buffer}
 use Rattle.keys.specs.declared.Summary.{Summary}
-use Rattle.prepare.specs.Calls.{textsRefusal, readyBy}
+use Rattle.prepare.specs.Calls.{textsRefusal, lookupCheck, readyBy, pagesBy}
 use Rattle.prepare.specs.declared.CallCheck.{CallCheck}
 use Rattle.prepare.specs.declared.CallCheck.the-variants.{Passed, Refused}
 
@@ -26,10 +28,20 @@ pub record ChecksTexts (o : Option Collation) (a b : ℕ) (r : CallCheck) : Type
   pub refusal : callCheckRefusal r ≡ textsRefusal o (a ∷ b ∷ [])
   pub known : (k : Collation) → r ≡ Passed k → o ≡ some k
 
--- and for 1 to 7
-pub record ChecksCall (o : Option Collation) (a b : ℕ) (t : Table) (r : CallCheck) : Type 0 where
-  pub refusal : callCheckRefusal r ≡ readyBy o (a ∷ b ∷ []) t
+-- and for 1 to 7 and 15
+pub record ChecksCall (o : Option Collation) (a b : ℕ) (t : Table) (p : Pages) (r : CallCheck) : Type 0 where
+  pub refusal : callCheckRefusal r ≡ readyBy o (a ∷ b ∷ []) t p
   pub known : (k : Collation) → r ≡ Passed k → o ≡ some k
+
+-- and the pages were filled where none of these applies
+pub record ChecksPaging (o : Option Collation) (a b : ℕ) (t : Table) (p : Pages) (r : CallCheck) (q : Pages) : Type 0 where
+  pub checks : ChecksCall o a b t p r
+  pub paged : q ≡ pagesBy (readyBy o (a ∷ b ∷ []) t p) o t p
+
+-- a table was checked under a collation, and so were the pages
+pub record ChecksTable (k : Collation) (t : Table) (p : Pages) (r : Check) (q : Pages) : Type 0 where
+  pub refusal : checkRefusal r ≡ lookupCheck (some k) t p
+  pub paged : q ≡ pagesBy (lookupCheck (some k) t p) (some k) t p
 
 -- the octets of the key buffer that a key of n octets needs, by where it stands
 abbrev pub neededAt : KeyPlace → ℕ → ℕ

@@ -1,4 +1,4 @@
-// Calls that passed 1 to 7: only 8 is left, and then the keys are written.
+// Calls that passed 1 to 7 and 15: only 8 is left, and then the keys are written.
 use super::Preparation;
 use super::PreparedPair;
 use crate::checks::check_room;
@@ -10,12 +10,13 @@ use terms::Check;
 use terms::Collation;
 ghost use mathlib.Core.Path.{_≡_};
 ghost use mathlib.Core.List.{[], _∷_};
-ghost use mathlib.Core.Option.{none, some};
+ghost use mathlib.Core.Option.{some};
 ghost use Prim.Native.Nat.{_≤_};
 ghost use lib.ListN.{length};
 ghost use Rattle.terms.specs.Refusals.{textMost};
 ghost use Rattle.table.specs.Table.{table};
-ghost use Rattle.keys.specs.Keys.{tableUnder};
+ghost use Rattle.pages.specs.Pages.{pages};
+ghost use Rattle.keys.specs.Keys.{UsableUnder};
 ghost use Rattle.prepare.specs.Calls.{oneCall, twoCall, CalledReady};
 ghost use Rattle.prepare.specs.Preparing.{preparedValues, pairOutcome, PreparesReady};
 
@@ -25,18 +26,20 @@ pub fn fill_one(
     text: &[u8],
     entries: &[u32],
     pool: &[u32],
+    presence: &[u64],
+    ranks: &[u64],
     key: &mut [u8],
 ) -> Preparation
     requires { ⌜ length (now text) ≤ textMost ⌝ }
-    requires { ⌜ tableUnder collation (table (now entries) (now pool)) ≡ none ⌝ }
+    requires { ⌜ UsableUnder collation (table (now entries) (now pool)) (pages (now presence) (now ranks)) ⌝ }
     ensures { λ r. ⌜ PreparesReady
-        (oneCall (some collation) (now (text .entry)) (now (entries .entry)) (now (pool .entry)) (now (key .entry))) r
-        (now (key .exit)) ⌝ }
+        (oneCall (some collation) (now (text .entry)) (now (entries .entry)) (now (pool .entry))
+        (now (presence .entry)) (now (ranks .entry)) (now (key .entry))) r (now (key .exit)) ⌝ }
 {
     if is_roomy(collation, text.len(), key.len()) {
-        return Preparation::Prepared(fill_unicode(text, entries, pool, key));
+        return Preparation::Prepared(fill_unicode(text, entries, pool, presence, ranks, key));
     }
-    fill_one_sized(collation, text, entries, pool, key)
+    fill_one_sized(collation, text, entries, pool, presence, ranks, key)
 }
 
 // The same, the key being sized before it is written.
@@ -45,19 +48,30 @@ fn fill_one_sized(
     text: &[u8],
     entries: &[u32],
     pool: &[u32],
+    presence: &[u64],
+    ranks: &[u64],
     key: &mut [u8],
 ) -> Preparation
     requires { ⌜ length (now text) ≤ textMost ⌝ }
-    requires { ⌜ tableUnder collation (table (now entries) (now pool)) ≡ none ⌝ }
+    requires { ⌜ UsableUnder collation (table (now entries) (now pool)) (pages (now presence) (now ranks)) ⌝ }
     ensures { λ r. ⌜ PreparesReady
-        (oneCall (some collation) (now (text .entry)) (now (entries .entry)) (now (pool .entry)) (now (key .entry))) r
-        (now (key .exit)) ⌝ }
+        (oneCall (some collation) (now (text .entry)) (now (entries .entry)) (now (pool .entry))
+        (now (presence .entry)) (now (ranks .entry)) (now (key .entry))) r (now (key .exit)) ⌝ }
 {
-    let summary = size_key(collation, text, entries, pool);
+    let summary = size_key(collation, text, entries, pool, presence, ranks);
     let room = check_room(1, summary, key.len());
     match room {
         Check::Passed => {
-            write_key(collation, text, entries, pool, summary, key);
+            write_key(
+                collation,
+                text,
+                entries,
+                pool,
+                presence,
+                ranks,
+                summary,
+                key,
+            );
             Preparation::Prepared(summary)
         }
         Check::Refused(r) => Preparation::Refused(r),
@@ -71,20 +85,22 @@ pub fn fill_two(
     second: &[u8],
     entries: &[u32],
     pool: &[u32],
+    presence: &[u64],
+    ranks: &[u64],
     first_key: &mut [u8],
     second_key: &mut [u8],
 ) -> PreparedPair
     requires { ⌜ length (now first) ≤ textMost ⌝ }
     requires { ⌜ length (now second) ≤ textMost ⌝ }
-    requires { ⌜ tableUnder collation (table (now entries) (now pool)) ≡ none ⌝ }
+    requires { ⌜ UsableUnder collation (table (now entries) (now pool)) (pages (now presence) (now ranks)) ⌝ }
     ensures { λ r. ⌜ CalledReady pairOutcome preparedValues (twoCall (some collation) (now (first .entry))
-        (now (second .entry)) (now (entries .entry)) (now (pool .entry)) (now («first_key» .entry))
+        (now (second .entry)) (now (entries .entry)) (now (pool .entry)) (now (presence .entry)) (now (ranks .entry)) (now («first_key» .entry))
         (now («second_key» .entry))) r (now («first_key» .exit) ∷ now («second_key» .exit) ∷ []) ⌝ }
 {
     if is_roomy(collation, first.len(), first_key.len()) {
         if is_roomy(collation, second.len(), second_key.len()) {
-            let one = fill_unicode(first, entries, pool, first_key);
-            let two = fill_unicode(second, entries, pool, second_key);
+            let one = fill_unicode(first, entries, pool, presence, ranks, first_key);
+            let two = fill_unicode(second, entries, pool, presence, ranks, second_key);
             return PreparedPair::Both(one, two);
         }
     }
@@ -94,6 +110,8 @@ pub fn fill_two(
         second,
         entries,
         pool,
+        presence,
+        ranks,
         first_key,
         second_key,
     )
@@ -106,25 +124,45 @@ fn fill_two_sized(
     second: &[u8],
     entries: &[u32],
     pool: &[u32],
+    presence: &[u64],
+    ranks: &[u64],
     first_key: &mut [u8],
     second_key: &mut [u8],
 ) -> PreparedPair
     requires { ⌜ length (now first) ≤ textMost ⌝ }
     requires { ⌜ length (now second) ≤ textMost ⌝ }
-    requires { ⌜ tableUnder collation (table (now entries) (now pool)) ≡ none ⌝ }
+    requires { ⌜ UsableUnder collation (table (now entries) (now pool)) (pages (now presence) (now ranks)) ⌝ }
     ensures { λ r. ⌜ CalledReady pairOutcome preparedValues (twoCall (some collation) (now (first .entry))
-        (now (second .entry)) (now (entries .entry)) (now (pool .entry)) (now («first_key» .entry))
+        (now (second .entry)) (now (entries .entry)) (now (pool .entry)) (now (presence .entry)) (now (ranks .entry)) (now («first_key» .entry))
         (now («second_key» .entry))) r (now («first_key» .exit) ∷ now («second_key» .exit) ∷ []) ⌝ }
 {
-    let one = size_key(collation, first, entries, pool);
-    let two = size_key(collation, second, entries, pool);
+    let one = size_key(collation, first, entries, pool, presence, ranks);
+    let two = size_key(collation, second, entries, pool, presence, ranks);
     if let Check::Refused(r) = check_room(1, one, first_key.len()) {
         return PreparedPair::Refused(r);
     }
     if let Check::Refused(r) = check_room(2, two, second_key.len()) {
         return PreparedPair::Refused(r);
     }
-    write_key(collation, first, entries, pool, one, first_key);
-    write_key(collation, second, entries, pool, two, second_key);
+    write_key(
+        collation,
+        first,
+        entries,
+        pool,
+        presence,
+        ranks,
+        one,
+        first_key,
+    );
+    write_key(
+        collation,
+        second,
+        entries,
+        pool,
+        presence,
+        ranks,
+        two,
+        second_key,
+    );
     PreparedPair::Both(one, two)
 }

@@ -1,8 +1,8 @@
 // Calls that prepare texts (document 01, "Preparation", "Refusal numbers"): their checks, and the keys left in the key buffers.
 //
-// `prepare` and `shown_key` take any arguments at all: a checked call is its check, and then its `_accepted` twin, which asks
-// for a table that is accepted already. The functions of the module filling work where 1 to 7 were passed, and say so:
-// comparing calls stand on `check_call`, `check_texts` and `fill_two`.
+// `prepare` and `shown_key` take any arguments at all: a checked call is its check, which fills the pages, and then its `_accepted`
+// twin, which asks for a table that is accepted already and its pages. The functions of the module filling work where 1 to 7
+// and 15 were passed, and say so: comparing calls stand on `check_call`, `check_texts` and `fill_two`.
 mod checks;
 mod filling;
 
@@ -14,11 +14,11 @@ use keys::Summary;
 use terms::Collation;
 use terms::Refusal;
 ghost use mathlib.Core.Path.{_≡_};
-ghost use mathlib.Core.Option.{none};
 ghost use Rattle.terms.specs.Collations.{collationOf};
 ghost use Rattle.table.specs.Table.{table};
-ghost use Rattle.prepare.specs.Calls.{tableCheck, oneCall};
-ghost use Rattle.prepare.specs.Preparing.{shownKey, Prepares};
+ghost use Rattle.pages.specs.Pages.{pages};
+ghost use Rattle.prepare.specs.Calls.{oneCall, UsableBy};
+ghost use Rattle.prepare.specs.Preparing.{shownKey, Prepares, PreparesPaging};
 
 // What preparing a text answers.
 pub enum Preparation {
@@ -44,35 +44,46 @@ pub fn prepare(
     text: &[u8],
     entries: &[u32],
     pool: &[u32],
+    presence: &mut [u64],
+    ranks: &mut [u64],
     key: &mut [u8],
 ) -> Preparation
-    ensures { λ r. ⌜ Prepares
-        (oneCall (collationOf collation) (now (text .entry)) (now (entries .entry)) (now (pool .entry)) (now (key .entry))) r
-        (now (key .exit)) ⌝ }
+    ensures { λ r. ⌜ PreparesPaging (oneCall (collationOf collation) (now (text .entry)) (now (entries .entry))
+        (now (pool .entry)) (now (presence .entry)) (now (ranks .entry)) (now (key .entry))) r (now (key .exit))
+        (pages (now (presence .exit)) (now (ranks .exit))) ⌝ }
 {
-    let checked = check_call(collation, text.len(), 0, entries, pool);
+    let checked = check_call(collation, text.len(), 0, entries, pool, presence, ranks);
     match checked {
-        CallCheck::Passed(_) => prepare_accepted(collation, text, entries, pool, key),
+        CallCheck::Passed(_) => prepare_accepted(
+            collation,
+            text,
+            entries,
+            pool,
+            presence,
+            ranks,
+            key,
+        ),
         CallCheck::Refused(r) => Preparation::Refused(r),
     }
 }
 
-// As `prepare`, over a table that is accepted already.
+// As `prepare`, over a table that is accepted already, with its pages.
 pub fn prepare_accepted(
     collation: u32,
     text: &[u8],
     entries: &[u32],
     pool: &[u32],
+    presence: &[u64],
+    ranks: &[u64],
     key: &mut [u8],
 ) -> Preparation
-    requires { ⌜ tableCheck (collationOf collation) (table (now entries) (now pool)) ≡ none ⌝ }
-    ensures { λ r. ⌜ Prepares
-        (oneCall (collationOf collation) (now (text .entry)) (now (entries .entry)) (now (pool .entry)) (now (key .entry))) r
-        (now (key .exit)) ⌝ }
+    requires { ⌜ UsableBy (collationOf collation) (table (now entries) (now pool)) (pages (now presence) (now ranks)) ⌝ }
+    ensures { λ r. ⌜ Prepares (oneCall (collationOf collation) (now (text .entry)) (now (entries .entry)) (now (pool .entry))
+        (now (presence .entry)) (now (ranks .entry)) (now (key .entry))) r (now (key .exit)) ⌝ }
 {
     let texts = check_texts(collation, text.len(), 0);
     match texts {
-        CallCheck::Passed(known) => fill_one(known, text, entries, pool, key),
+        CallCheck::Passed(known) => fill_one(known, text, entries, pool, presence, ranks, key),
         CallCheck::Refused(r) => Preparation::Refused(r),
     }
 }

@@ -24,6 +24,7 @@ use Rattle.decompose.proofs.Bounds.{full-some}
 use Rattle.table.specs.Table.{Table, mappingOf}
 use Rattle.keys.specs.Keys.{upper, unicodePrepared, prepared, keyOf}
 use Rattle.keys.specs.declared.Summary.{Summary}
+use Rattle.pages.specs.Pages.{Pages}
 use Rattle.prepare.specs.Calls.{Lent, call, Answers}
 use Rattle.prepare.specs.Preparing.{preparedValues, pairOutcome}
 use Rattle.prepare.specs.declared.PreparedPair.{PreparedPair}
@@ -160,9 +161,9 @@ shows-seekable {k} {m} {s} h full-text a b = record { some = rw a (key-some k m 
 
 -- ---- the whole call
 
-module _ {k : Collation} {t : Table} {l n : Lent} {x : Option Refusal} {r : PreparedPair} {sAfter tAfter : List ℕ}
+module _ {k : Collation} {t : Table} {g : Pages} {l n : Lent} {x : Option Refusal} {r : PreparedPair} {sAfter tAfter : List ℕ}
     {one two : Summary}
-    (h : Answers pairOutcome preparedValues x (call (some k) t (l ∷ n ∷ [])) r (sAfter ∷ tAfter ∷ []))
+    (h : Answers pairOutcome preparedValues x (call (some k) t g (l ∷ n ∷ [])) r (sAfter ∷ tAfter ∷ []))
     (e : r ≡ Both one two) where
   -- texts that were prepared show their keys
   pub both-shows : Shows k (mappingOf t) (l .text) sAfter one (n .text) tAfter two
@@ -170,5 +171,5 @@ module _ {k : Collation} {t : Table} {l n : Lent} {x : Option Refusal} {r : Prep
 
   -- what was sought in their keys is the call's answer
   pub seeks-shown : {q : Sought} → substringOutcome q ≡ gives (substringValues k (mappingOf t) (l .text) (n .text))
-      → Answers substringOutcome soughtValues x (call (some k) t (l ∷ n ∷ [])) q (sAfter ∷ tAfter ∷ [])
+      → Answers substringOutcome soughtValues x (call (some k) t g (l ∷ n ∷ [])) q (sAfter ∷ tAfter ∷ [])
   seeks-shown told = record { answered = rw (told, both-unrefused h e); left = h .left }

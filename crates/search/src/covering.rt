@@ -3,11 +3,11 @@
 use terms::KeyPosition;
 use terms::TextPosition;
 ghost use mathlib.Core.Path.{_≡_};
-ghost use mathlib.Core.Option.{none};
 ghost use lib.ListN.{drop};
 ghost use Rattle.utf8.specs.Utf8.{characters};
 ghost use Rattle.table.specs.Table.{table, mappingOf};
-ghost use Rattle.decompose.specs.TableCheck.{tableRefusal};
+ghost use Rattle.pages.specs.Pages.{pages};
+ghost use Rattle.decompose.specs.TableCheck.{Usable};
 ghost use Rattle.search.specs.Covering.{span};
 ghost use Rattle.search.specs.Substring.{runIn};
 ghost use Rattle.search.specs.Promises.{Within, HasOctet, HolderFound, holding, runSpan};
@@ -30,21 +30,23 @@ pub fn cover(
     text: &[u8],
     entries: &[u32],
     pool: &[u32],
+    presence: &[u64],
+    ranks: &[u64],
     start: KeyPosition,
     end: KeyPosition,
 ) -> Run
-    requires { ⌜ tableRefusal (table (now entries) (now pool)) ≡ none ⌝ }
+    requires { ⌜ Usable (table (now entries) (now pool)) (pages (now presence) (now ranks)) ⌝ }
     requires { ⌜ Within (mappingOf (table (now entries) (now pool))) (characters (now text)) (start .0) (end .0) ⌝ }
     ensures { λ r. ⌜ runSpan r ≡ runIn (mappingOf (table (now (entries .entry)) (now (pool .entry))))
         (characters (now (text .entry))) (span (start .0) (end .0)) ⌝ }
 {
     let s = start.0;
     let e = end.0;
-    let first = find_holder(text, entries, pool, TextPosition(0), start);
+    let first = find_holder(text, entries, pool, presence, ranks, TextPosition(0), start);
     let from = first.start;
     // The last octet is sought from the first one's character on, so that the text is walked once.
     let k = first.offset + (e - 1 - s);
-    let last = find_holder(text, entries, pool, from, KeyPosition(k));
+    let last = find_holder(text, entries, pool, presence, ranks, from, KeyPosition(k));
     let to = last.end;
     Run {
         start: from,
@@ -57,10 +59,12 @@ fn find_holder(
     text: &[u8],
     entries: &[u32],
     pool: &[u32],
+    presence: &[u64],
+    ranks: &[u64],
     from: TextPosition,
     k: KeyPosition,
 ) -> Holder
-    requires { ⌜ tableRefusal (table (now entries) (now pool)) ≡ none ⌝ }
+    requires { ⌜ Usable (table (now entries) (now pool)) (pages (now presence) (now ranks)) ⌝ }
     requires { ⌜ HasOctet (mappingOf (table (now entries) (now pool))) (characters (drop (from .0) (now text))) (k .0) ⌝ }
     ensures { λ r. ⌜ HolderFound (mappingOf (table (now (entries .entry)) (now (pool .entry))))
         (characters (drop (from .0) (now (text .entry)))) (from .0) (k .0) r ⌝ }
@@ -69,7 +73,7 @@ fn find_holder(
     let mut left = k;
     while at.0 < text.len() {
         let character = utf8::read_valid(text, at);
-        let sized = decompose::size_expansion(character.code, entries, pool);
+        let sized = decompose::size_expansion(character.code, entries, pool, presence, ranks);
         let octets = sized.octets;
         let next = TextPosition(at.0 + character.width);
         if left.0 < octets {

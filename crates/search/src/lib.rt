@@ -1,6 +1,6 @@
 // Substring search under a collation (document 01, "The substring answer").
 //
-// `substring` takes any arguments at all; `substring_accepted` asks for a table that is accepted already.
+// `substring` takes any arguments at all; `substring_accepted` asks for a table that is accepted already and its pages.
 mod covering;
 
 use covering::cover;
@@ -14,14 +14,15 @@ use terms::Refusal;
 use terms::TextPosition;
 ghost use mathlib.Core.Path.{_≡_};
 ghost use mathlib.Core.List.{[], _∷_};
-ghost use mathlib.Core.Option.{none, some};
+ghost use mathlib.Core.Option.{some};
 ghost use Prim.Native.Nat.{_≤_};
 ghost use lib.ListN.{length};
 ghost use Rattle.terms.specs.Collations.{collationOf};
 ghost use Rattle.terms.specs.Refusals.{textMost, gives};
 ghost use Rattle.table.specs.Table.{table, mappingOf};
-ghost use Rattle.keys.specs.Keys.{tableUnder};
-ghost use Rattle.prepare.specs.Calls.{tableCheck, twoCall, Called, CalledReady};
+ghost use Rattle.pages.specs.Pages.{pages};
+ghost use Rattle.keys.specs.Keys.{UsableUnder};
+ghost use Rattle.prepare.specs.Calls.{twoCall, Called, CalledPaging, CalledReady, UsableBy};
 ghost use Rattle.occurrence.specs.Occurrence.{occurrence};
 ghost use Rattle.search.specs.Covering.{span};
 ghost use Rattle.search.specs.Substring.{substringOutcome, textRun, hitValues, foundValues, substringValues, soughtValues};
@@ -46,14 +47,25 @@ pub fn substring(
     second: &[u8],
     entries: &[u32],
     pool: &[u32],
+    presence: &mut [u64],
+    ranks: &mut [u64],
     first_key: &mut [u8],
     second_key: &mut [u8],
 ) -> Sought
-    ensures { λ r. ⌜ Called substringOutcome soughtValues (twoCall (collationOf collation) (now (first .entry))
-        (now (second .entry)) (now (entries .entry)) (now (pool .entry)) (now («first_key» .entry))
-        (now («second_key» .entry))) r (now («first_key» .exit) ∷ now («second_key» .exit) ∷ []) ⌝ }
+    ensures { λ r. ⌜ CalledPaging substringOutcome soughtValues (twoCall (collationOf collation) (now (first .entry))
+        (now (second .entry)) (now (entries .entry)) (now (pool .entry)) (now (presence .entry)) (now (ranks .entry)) (now («first_key» .entry))
+        (now («second_key» .entry))) r (now («first_key» .exit) ∷ now («second_key» .exit) ∷ [])
+        (pages (now (presence .exit)) (now (ranks .exit))) ⌝ }
 {
-    let checked = prepare::check_call(collation, first.len(), second.len(), entries, pool);
+    let checked = prepare::check_call(
+        collation,
+        first.len(),
+        second.len(),
+        entries,
+        pool,
+        presence,
+        ranks,
+    );
     match checked {
         CallCheck::Passed(_) => substring_accepted(
             collation,
@@ -61,6 +73,8 @@ pub fn substring(
             second,
             entries,
             pool,
+            presence,
+            ranks,
             first_key,
             second_key,
         ),
@@ -68,19 +82,21 @@ pub fn substring(
     }
 }
 
-// As `substring`, over a table that is accepted already.
+// As `substring`, over a table that is accepted already, with its pages.
 pub fn substring_accepted(
     collation: u32,
     first: &[u8],
     second: &[u8],
     entries: &[u32],
     pool: &[u32],
+    presence: &[u64],
+    ranks: &[u64],
     first_key: &mut [u8],
     second_key: &mut [u8],
 ) -> Sought
-    requires { ⌜ tableCheck (collationOf collation) (table (now entries) (now pool)) ≡ none ⌝ }
+    requires { ⌜ UsableBy (collationOf collation) (table (now entries) (now pool)) (pages (now presence) (now ranks)) ⌝ }
     ensures { λ r. ⌜ Called substringOutcome soughtValues (twoCall (collationOf collation) (now (first .entry))
-        (now (second .entry)) (now (entries .entry)) (now (pool .entry)) (now («first_key» .entry))
+        (now (second .entry)) (now (entries .entry)) (now (pool .entry)) (now (presence .entry)) (now (ranks .entry)) (now («first_key» .entry))
         (now («second_key» .entry))) r (now («first_key» .exit) ∷ now («second_key» .exit) ∷ []) ⌝ }
 {
     let texts = prepare::check_texts(collation, first.len(), second.len());
@@ -91,6 +107,8 @@ pub fn substring_accepted(
             second,
             entries,
             pool,
+            presence,
+            ranks,
             first_key,
             second_key,
         ),
@@ -98,21 +116,23 @@ pub fn substring_accepted(
     }
 }
 
-// Seeks the first text in the second where 1 to 7 were passed.
+// Seeks the first text in the second where 1 to 7 and 15 were passed.
 fn seek_ready(
     collation: Collation,
     first: &[u8],
     second: &[u8],
     entries: &[u32],
     pool: &[u32],
+    presence: &[u64],
+    ranks: &[u64],
     first_key: &mut [u8],
     second_key: &mut [u8],
 ) -> Sought
     requires { ⌜ length (now first) ≤ textMost ⌝ }
     requires { ⌜ length (now second) ≤ textMost ⌝ }
-    requires { ⌜ tableUnder collation (table (now entries) (now pool)) ≡ none ⌝ }
+    requires { ⌜ UsableUnder collation (table (now entries) (now pool)) (pages (now presence) (now ranks)) ⌝ }
     ensures { λ r. ⌜ CalledReady substringOutcome soughtValues (twoCall (some collation) (now (first .entry))
-        (now (second .entry)) (now (entries .entry)) (now (pool .entry)) (now («first_key» .entry))
+        (now (second .entry)) (now (entries .entry)) (now (pool .entry)) (now (presence .entry)) (now (ranks .entry)) (now («first_key» .entry))
         (now («second_key» .entry))) r (now («first_key» .exit) ∷ now («second_key» .exit) ∷ []) ⌝ }
 {
     let pair = prepare::fill_two(
@@ -121,6 +141,8 @@ fn seek_ready(
         second,
         entries,
         pool,
+        presence,
+        ranks,
         first_key,
         second_key,
     );
@@ -136,6 +158,8 @@ fn seek_ready(
                 two,
                 entries,
                 pool,
+                presence,
+                ranks,
             )
         }
         PreparedPair::Refused(r) => Sought::Refused(r),
@@ -153,8 +177,10 @@ fn seek_shown<'a, 'b>(
     two: Summary,
     entries: &[u32],
     pool: &[u32],
+    presence: &[u64],
+    ranks: &[u64],
 ) -> Sought
-    requires { ⌜ tableUnder collation (table (now entries) (now pool)) ≡ none ⌝ }
+    requires { ⌜ UsableUnder collation (table (now entries) (now pool)) (pages (now presence) (now ranks)) ⌝ }
     requires { ⌜ Shows collation (mappingOf (table (now entries) (now pool))) (now first) (now «first_key») one (now second)
         (now «second_key») two ⌝ }
     ensures { λ r. ⌜ substringOutcome r ≡ gives (substringValues collation
@@ -170,7 +196,17 @@ fn seek_shown<'a, 'b>(
     }
     let needle = keys::shown_part(first, first_key, one);
     let hay = keys::shown_part(second, second_key, two);
-    seek_key(collation, needle, hay, second, two.valid, entries, pool)
+    seek_key(
+        collation,
+        needle,
+        hay,
+        second,
+        two.valid,
+        entries,
+        pool,
+        presence,
+        ranks,
+    )
 }
 
 // A key that is not empty sought in the second text's key.
@@ -182,8 +218,10 @@ fn seek_key(
     valid: bool,
     entries: &[u32],
     pool: &[u32],
+    presence: &[u64],
+    ranks: &[u64],
 ) -> Sought
-    requires { ⌜ tableUnder collation (table (now entries) (now pool)) ≡ none ⌝ }
+    requires { ⌜ UsableUnder collation (table (now entries) (now pool)) (pages (now presence) (now ranks)) ⌝ }
     requires { ⌜ Seekable collation (mappingOf (table (now entries) (now pool))) (now needle) (now hay) (now second) valid ⌝ }
     ensures { λ r. ⌜ substringOutcome r ≡ gives (foundValues collation
         (mappingOf (table (now (entries .entry)) (now (pool .entry)))) (now (second .entry)) (length (now (needle .entry)))
@@ -200,6 +238,8 @@ fn seek_key(
                 valid,
                 entries,
                 pool,
+                presence,
+                ranks,
                 start,
                 KeyPosition(e),
             )
@@ -215,17 +255,19 @@ fn hit(
     valid: bool,
     entries: &[u32],
     pool: &[u32],
+    presence: &[u64],
+    ranks: &[u64],
     start: KeyPosition,
     end: KeyPosition,
 ) -> Sought
-    requires { ⌜ tableUnder collation (table (now entries) (now pool)) ≡ none ⌝ }
+    requires { ⌜ UsableUnder collation (table (now entries) (now pool)) (pages (now presence) (now ranks)) ⌝ }
     requires { ⌜ Hits collation (mappingOf (table (now entries) (now pool))) (now second) valid (start .0) (end .0) ⌝ }
     ensures { λ r. ⌜ substringOutcome r ≡ gives (hitValues (span (start .0) (end .0)) (textRun collation
         (mappingOf (table (now (entries .entry)) (now (pool .entry)))) (now (second .entry)) (span (start .0) (end .0)))) ⌝ }
 {
     if terms::reads_table(collation) {
         if valid {
-            let run = cover(second, entries, pool, start, end);
+            let run = cover(second, entries, pool, presence, ranks, start, end);
             let text_start = run.start;
             let text_end = run.end;
             return Sought::Match {

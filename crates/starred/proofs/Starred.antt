@@ -18,6 +18,7 @@ use Rattle.decompose.specs.Steps.{stepsKey, stepsLookups}
 use Rattle.decompose.specs.TableCheck.{faultySyllable, tableRefusal}
 use Rattle.decompose.specs.Promises.{largest}
 use Rattle.decompose.proofs.Syllables.{table-syllables}
+use Rattle.pages.specs.Pages.{Pages, shortPages}
 use Rattle.prepare.specs.Calls.{callRefusal}
 use Rattle.occurrence.specs.Occurrence.{occurrence}
 use Rattle.search.specs.Covering.{holder, covering}
@@ -38,7 +39,8 @@ refused-7 : tableRefusal (table (0x41 ∷ 0x41 ∷ 0 ∷ 1 ∷ []) (0x41 ∷ [])
 unfolding lowest each entryCount wholeEntries numberAt countsBelow notAbove syllable formRefusal entryOf within full tableRefusal
 refused-7 = refl
 
--- the claim
-pub starred-hold : map (λ (e : Example). e .asked) starred ≡ map (λ (e : Example). e .said) starred
+-- the claim, whatever pages of the length were lent
+pub starred-hold : (p : Pages) → shortPages p ≡ false
+    → map (λ (e : Example). e .asked) (starred p) ≡ map (λ (e : Example). e .said) (starred p)
 unfolding lowest each total begins leadingOnes announced encode trailed decode charactersAfter charactersBy entryCount numberAt syllable entryOf full asks stepsKey stepsLookups callRefusal orderOf occurrence holder covering substringValues starred
-starred-hold = rw (accepted, refused-7)
+starred-hold p long = rw (accepted, refused-7, long)

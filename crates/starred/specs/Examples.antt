@@ -12,7 +12,8 @@ use Rattle.terms.specs.Refusals.{Outcome, row}
 use Rattle.table.specs.Table.{table}
 use Rattle.decompose.specs.TableCheck.{tableAnswer}
 use Rattle.keys.specs.Keys.{PreparedText}
-use Rattle.prepare.specs.Calls.{Call, oneCall, twoCall, preparedIn, callRefusal, answerOf, buffersAfter}
+use Rattle.pages.specs.Pages.{Pages}
+use Rattle.prepare.specs.Calls.{Call, call, lent, preparedIn, callRefusal, answerOf, buffersAfter}
 use Rattle.prepare.specs.Preparing.{preparedValues}
 use Rattle.compare.specs.Compare.{orderValues}
 use Rattle.search.specs.Substring.{soughtValues}
@@ -54,25 +55,25 @@ leaving c = each (λ (b : List ℕ). b) (buffersAfter (callRefusal c) c)
 abbrev pub keysIn : Call → List ℕ
 keysIn c = each (λ (p : PreparedText). p .key) (preparedIn c)
 
--- a call on one text, and on two, under collation 3 with table T
-abbrev pub onText : List ℕ → Call
-onText text = oneCall (collationOf 3) text entriesT poolT blank
+-- a call on one text, and on two, under collation 3 with table T, lent any pages
+abbrev pub onText : Pages → List ℕ → Call
+onText p text = call (collationOf 3) (table entriesT poolT) p (lent text blank ∷ [])
 
-abbrev pub onTexts : List ℕ → List ℕ → Call
-onTexts s t = twoCall (collationOf 3) s t entriesT poolT blank blank
+abbrev pub onTexts : Pages → List ℕ → List ℕ → Call
+onTexts p s t = call (collationOf 3) (table entriesT poolT) p (lent s blank ∷ lent t blank ∷ [])
 
 -- preparing a text: number, place, detail, valid, lookup count, length of the key, where it stands; then the key; then the
 -- key buffer
-abbrev pub preparing : List ℕ → List ℕ
-preparing text = answering 4 preparedValues (onText text) ++ keysIn (onText text) ++ leaving (onText text)
+abbrev pub preparing : Pages → List ℕ → List ℕ
+preparing p text = answering 4 preparedValues (onText p text) ++ keysIn (onText p text) ++ leaving (onText p text)
 
 -- ordering two texts: number, place, detail, and 1 less, 2 equal, 3 greater
-abbrev pub ordering : List ℕ → List ℕ → List ℕ
-ordering s t = answering 1 orderValues (onTexts s t)
+abbrev pub ordering : Pages → List ℕ → List ℕ → List ℕ
+ordering p s t = answering 1 orderValues (onTexts p s t)
 
 -- seeking a text in another: number, place, detail, 1 match or 2 no-match, key start, key end, text start, text end
-abbrev pub seeking : List ℕ → List ℕ → List ℕ
-seeking s t = answering 5 soughtValues (onTexts s t)
+abbrev pub seeking : Pages → List ℕ → List ℕ → List ℕ
+seeking p s t = answering 5 soughtValues (onTexts p s t)
 
 -- checking a table: number, place, detail
 abbrev pub checking : List ℕ → List ℕ → List ℕ
@@ -99,20 +100,20 @@ prepared valid count size place key buffer = 0 ∷ 0 ∷ 0 ∷ valid ∷ count �
 abbrev pub hay : List ℕ
 hay = 0x61 ∷ 0xC3 ∷ 0xA9 ∷ []
 
-unfoldable pub starred : List Example
-starred =
-    (preparing (0xC3 ∷ 0xA9 ∷ []) gives prepared 1 4 3 1 (0x45 ∷ 0xCC ∷ 0x81 ∷ []) (0x45 ∷ 0xCC ∷ 0x81 ∷ 0xEE ∷ 0xEE ∷ 0xEE ∷ []))
-    ∷ (preparing (0xC7 ∷ 0x84 ∷ [])
+unfoldable pub starred : Pages → List Example
+starred p =
+    (preparing p (0xC3 ∷ 0xA9 ∷ []) gives prepared 1 4 3 1 (0x45 ∷ 0xCC ∷ 0x81 ∷ []) (0x45 ∷ 0xCC ∷ 0x81 ∷ 0xEE ∷ 0xEE ∷ 0xEE ∷ []))
+    ∷ (preparing p (0xC7 ∷ 0x84 ∷ [])
     gives prepared 1 6 4 1 (0x44 ∷ 0x7A ∷ 0xCC ∷ 0x8C ∷ []) (0x44 ∷ 0x7A ∷ 0xCC ∷ 0x8C ∷ 0xEE ∷ 0xEE ∷ []))
     ∷
-    (preparing (0xEF ∷ 0xAC ∷ 0x81 ∷ []) gives prepared 1 4 2 1 (0x66 ∷ 0x69 ∷ []) (0x66 ∷ 0x69 ∷ 0xEE ∷ 0xEE ∷ 0xEE ∷ 0xEE ∷ []))
-    ∷ (preparing [] gives prepared 1 0 0 1 [] blank)
-    ∷ (preparing (0xC3 ∷ []) gives prepared 0 0 1 0 (0xC3 ∷ []) blank)
-    ∷ (preparing (0xC0 ∷ 0x80 ∷ []) gives prepared 0 0 2 0 (0xC0 ∷ 0x80 ∷ []) blank)
-    ∷ (ordering (0x45 ∷ []) (0xC3 ∷ 0xA9 ∷ []) gives (0 ∷ 0 ∷ 0 ∷ 1 ∷ []))
-    ∷ (ordering (0xC3 ∷ []) (0xC3 ∷ 0xA9 ∷ []) gives (0 ∷ 0 ∷ 0 ∷ 3 ∷ []))
-    ∷ (seeking (0xCC ∷ 0x81 ∷ []) hay gives (0 ∷ 0 ∷ 0 ∷ 1 ∷ 2 ∷ 4 ∷ 1 ∷ 3 ∷ []))
-    ∷ (seeking (0x81 ∷ []) hay gives (0 ∷ 0 ∷ 0 ∷ 1 ∷ 3 ∷ 4 ∷ 1 ∷ 3 ∷ []))
-    ∷ (seeking [] hay gives (0 ∷ 0 ∷ 0 ∷ 1 ∷ 0 ∷ 0 ∷ 0 ∷ 0 ∷ []))
+    (preparing p (0xEF ∷ 0xAC ∷ 0x81 ∷ []) gives prepared 1 4 2 1 (0x66 ∷ 0x69 ∷ []) (0x66 ∷ 0x69 ∷ 0xEE ∷ 0xEE ∷ 0xEE ∷ 0xEE ∷ []))
+    ∷ (preparing p [] gives prepared 1 0 0 1 [] blank)
+    ∷ (preparing p (0xC3 ∷ []) gives prepared 0 0 1 0 (0xC3 ∷ []) blank)
+    ∷ (preparing p (0xC0 ∷ 0x80 ∷ []) gives prepared 0 0 2 0 (0xC0 ∷ 0x80 ∷ []) blank)
+    ∷ (ordering p (0x45 ∷ []) (0xC3 ∷ 0xA9 ∷ []) gives (0 ∷ 0 ∷ 0 ∷ 1 ∷ []))
+    ∷ (ordering p (0xC3 ∷ []) (0xC3 ∷ 0xA9 ∷ []) gives (0 ∷ 0 ∷ 0 ∷ 3 ∷ []))
+    ∷ (seeking p (0xCC ∷ 0x81 ∷ []) hay gives (0 ∷ 0 ∷ 0 ∷ 1 ∷ 2 ∷ 4 ∷ 1 ∷ 3 ∷ []))
+    ∷ (seeking p (0x81 ∷ []) hay gives (0 ∷ 0 ∷ 0 ∷ 1 ∷ 3 ∷ 4 ∷ 1 ∷ 3 ∷ []))
+    ∷ (seeking p [] hay gives (0 ∷ 0 ∷ 0 ∷ 1 ∷ 0 ∷ 0 ∷ 0 ∷ 0 ∷ []))
     ∷ (checking (0x41 ∷ 0x41 ∷ 0 ∷ 1 ∷ []) (0x41 ∷ []) gives (7 ∷ 0 ∷ 0 ∷ []))
     ∷ []

@@ -173,6 +173,12 @@ entryOf-some es c i e =
     let found = lowest-some (λ k. eqb (codeAt es k) c) (entryCount es) i e in
     (found .below, eqb-true (codeAt es i) c (found .holds))
 
+-- where a code point has none, no entry has it
+pub entryOf-gone : (es : List ℕ) (c : ℕ) → entryOf es c ≡ none → (i : ℕ) → i < entryCount es → codeAt es i ≡ c → ⊥
+unfolding entryOf
+entryOf-gone es c e i l same =
+    true≢false (sym (eq-eqb (codeAt es i) c same) ∙ lowest-none (λ k. eqb (codeAt es k) c) (entryCount es) e i l)
+
 -- ---- what a table means of a code point
 
 -- one with no entry is its own titlecase

@@ -44,14 +44,6 @@ module _ {es : List ℕ} (up : Ascending es) {c low size : ℕ} (a : Candidates 
     above = λ k n o. ascending-above es up c middle e k (omega arith) o;
   }
 
-  -- and it is not the first of them
-  pub candidates-later : (middle : ℕ) → low ≤ middle → 0 < size → c < codeAt es middle → low < middle
-  candidates-later middle l m e = go (ℕ-discrete middle low)
-    where
-      go : Dec (middle ≡ low) → low < middle
-      go (yes q) = let same : c < codeAt es low = rw q at e in absurd (omega (arith, a .first m))
-      go (no q) = omega arith
-
   -- one is left, and it is another's: the code point has no entry
   pub candidates-other : 0 < size → size ≤ 1 → (codeAt es low ≡ c → ⊥) → entryOf es c ≡ none
   candidates-other h l ne = entryOf-none es c other
@@ -63,11 +55,3 @@ module _ {es : List ℕ} (up : Ascending es) {c low size : ℕ} (a : Candidates 
           go (yes b) d = omega (arith, ascending-lt es up k low b (omega (arith, a .within)), a .first h)
           go (no b) (yes d) = omega (arith, a .above k (omega arith) m)
           go (no b) (no d) = let same : low ≡ k = omega arith in ne (rw same e)
-
--- the last of them is below: the code point has no entry
-pub candidates-past : {es : List ℕ} → Ascending es → {c low size : ℕ} → Candidates es c low size
-    → (last : ℕ) → last + 1 ≡ low + size
-    → codeAt es last < c → entryOf es c ≡ none
-candidates-past {es} up {c} a last q e =
-    let one : Candidates es c last 1 = candidates-up a q (omega arith) in
-    candidates-other up one (omega arith) (omega arith) (λ same. omega arith)

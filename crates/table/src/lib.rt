@@ -16,9 +16,6 @@ ghost use Rattle.table.specs.Layout.{entryCount};
 ghost use Rattle.table.specs.Table.{table, formRefusal, entryOf, partsIn, entryParts};
 ghost use Rattle.table.specs.Promises.{placeFound, Ascending, Candidates};
 
-// Within how many entries of a guess to look first.
-const NEAR: usize = 64;
-
 // Where something is, counted from 0, if it is anywhere.
 pub enum Place {
     At(usize),
@@ -48,38 +45,17 @@ pub fn check_form(entries: &[u32], pool: &[u32]) -> Check
     Check::Passed
 }
 
-// The entry of a code point.
-pub fn find_entry(entries: &[u32], c: CodePoint) -> Place
-    requires { ⌜ Ascending (now entries) ⌝ }
-    ensures { λ r. ⌜ placeFound r ≡ entryOf (now (entries .entry)) (c .0) ⌝ }
-{
-    let count = within_reach(entries, c);
-    if count == 0 {
-        return Place::Nowhere;
-    }
-    // Where the code points follow the first one without a gap, as a to z do, the furthest within reach is the one.
-    if count <= NEAR {
-        let furthest = count - 1;
-        let there = layout::code_at(entries, furthest);
-        if there.0 == c.0 {
-            return Place::At(furthest);
-        }
-    }
-    find_around(entries, c, count)
-}
-
-// The decomposition that the entry of a code point says, as a part of the pool; empty if it has none.
+// The decomposition that the entry of a code point says, as a part of the pool; empty if it has none. By a search, for the check of
+// a table, which comes before its pages.
 pub fn entry_parts<'a>(entries: &[u32], pool: &'a [u32], c: CodePoint) -> &'a [u32]
     requires { ⌜ formRefusal (table (now entries) (now pool)) ≡ none ⌝ }
     ensures { λ r. ⌜ now r ≡ entryParts (table (now (entries .entry)) (now (pool .entry))) (c .0) ⌝ }
 {
     let count = within_reach(entries, c);
-    // A capital A to Z is below the first entry. Not by find_entry: with two callers find_around is compiled apart, and this
-    // is inlined.
     if count == 0 {
         return &pool[..0];
     }
-    if let Place::At(i) = find_around(entries, c, count) {
+    if let Place::At(i) = find_among(entries, c, 0, count) {
         return parts_at(entries, pool, i);
     }
     &pool[..0]
@@ -128,68 +104,8 @@ fn within_reach(entries: &[u32], sought: CodePoint) -> usize
     count
 }
 
-// The entry of a code point among the first `count`: where the published table has it, or around that place, or anywhere.
-fn find_around(entries: &[u32], sought: CodePoint, count: usize) -> Place
-    requires { ⌜ Ascending (now entries) ⌝ }
-    requires { ⌜ 0 < count ⌝ }
-    requires { ⌜ Candidates (now entries) (sought .0) 0 count ⌝ }
-    ensures { λ r. ⌜ placeFound r ≡ entryOf (now (entries .entry)) (sought .0) ⌝ }
-{
-    let guess = published::place_of(sought.0);
-    if count <= guess {
-        return find_among(entries, sought, 0, count);
-    }
-    let there = layout::code_at(entries, guess);
-    if there.0 == sought.0 {
-        return Place::At(guess);
-    }
-    if there.0 < sought.0 {
-        return find_after(entries, sought, guess, count - guess);
-    }
-    find_before(entries, sought, guess)
-}
-
-// The entry of a code point among the `size` from `low` on: near `low`, if the entry NEAR places on is above the code point.
-fn find_after(entries: &[u32], sought: CodePoint, low: usize, size: usize) -> Place
-    requires { ⌜ Ascending (now entries) ⌝ }
-    requires { ⌜ 0 < size ⌝ }
-    requires { ⌜ Candidates (now entries) (sought .0) low size ⌝ }
-    ensures { λ r. ⌜ placeFound r ≡ entryOf (now (entries .entry)) (sought .0) ⌝ }
-{
-    if NEAR < size {
-        let far = low + NEAR;
-        let beyond = layout::code_at(entries, far);
-        if sought.0 < beyond.0 {
-            return find_among(entries, sought, low, NEAR);
-        }
-    }
-    find_among(entries, sought, low, size)
-}
-
-// The entry of a code point among the first `high`: none, if the last of them is below it; near `high`, if the entry NEAR places
-// back is not above it.
-fn find_before(entries: &[u32], sought: CodePoint, high: usize) -> Place
-    requires { ⌜ Ascending (now entries) ⌝ }
-    requires { ⌜ 0 < high ⌝ }
-    requires { ⌜ Candidates (now entries) (sought .0) 0 high ⌝ }
-    ensures { λ r. ⌜ placeFound r ≡ entryOf (now (entries .entry)) (sought .0) ⌝ }
-{
-    let last = layout::code_at(entries, high - 1);
-    if last.0 < sought.0 {
-        return Place::Nowhere;
-    }
-    if NEAR < high {
-        let low = high - NEAR;
-        let there = layout::code_at(entries, low);
-        if there.0 <= sought.0 {
-            return find_among(entries, sought, low, NEAR);
-        }
-    }
-    find_among(entries, sought, 0, high)
-}
-
-// The entry of a code point among the `size` from `low` on. A turn asks one question, not also whether this is the one: names
-// hold the same letters again and again, and their ways are soon foreseen.
+// The entry of a code point among the `size` from `low` on. A turn asks one question, not also whether this is the one: parts are
+// the same letters and marks again and again, and their ways are soon foreseen.
 fn find_among(entries: &[u32], sought: CodePoint, low: usize, size: usize) -> Place
     requires { ⌜ Ascending (now entries) ⌝ }
     requires { ⌜ 0 < size ⌝ }

@@ -1,17 +1,19 @@
 //! One input given to both programs: their answers and all lent memory must be the same.
 
-use crate::abi::{Call, Comparing, EQUAL, ORDER, PREPARE, SUBSTRING};
+use crate::abi::{ComparingCall, EQUAL, ORDER, PREPARE, SUBSTRING};
 use crate::hex::{hex, hex_numbers};
 use crate::library::{self, LentTable};
+use crate::paging::Paging;
 use second::collate::{self, Pair};
 use second::table::{examine, Verdict};
 
-/// A table as both programs hold it, with the second program's verdict.
+/// A table as both programs hold it, with the second program's verdict and the page slices that its calls are lent.
 pub struct Table {
     pub entries: Vec<u32>,
     pub pool: Vec<u32>,
     pub verdict: Verdict,
     pub lent: LentTable,
+    pub paging: Paging,
 }
 
 /// What both programs answered, and the key buffers after the call (the second one empty where there is one text).
@@ -34,7 +36,10 @@ pub struct Case {
 
 /// What stands in a buffer before a call: octets that no UTF-8 has, and no two next to each other the same.
 pub fn pattern(length: usize) -> Vec<u8> {
-    (0..length).map(|at| 0xF8 | (at % 7) as u8).collect()
+    const ROW: [u8; 7] = [0xF8, 0xF9, 0xFA, 0xFB, 0xFC, 0xFD, 0xFE];
+    let mut pattern = ROW.repeat(length.div_ceil(ROW.len()));
+    pattern.truncate(length);
+    pattern
 }
 
 /// What stands in a slice of numbers before a call: numbers from one on that no call brings.
@@ -59,7 +64,8 @@ pub fn agree<A: PartialEq + Describe>(case: impl Fn() -> String, answer: Result<
 impl Table {
     /// Lends a table to both programs and compares their checks of it.
     pub fn new(entries: Vec<u32>, pool: Vec<u32>) -> Result<Table, String> {
-        let table = Table { verdict: examine(&entries, &pool), lent: LentTable::new(&entries, &pool), entries, pool };
+        let (verdict, lent) = (examine(&entries, &pool), LentTable::new(&entries, &pool));
+        let table = Table { verdict, lent, entries, pool, paging: Paging::default() };
         let expected = collate::verdict_row(&table.verdict);
         let answer = table.lent.check()?;
         table.check_unchanged()?;
@@ -78,10 +84,10 @@ impl Table {
         collate::verdict_row(&self.verdict)
     }
 
-    /// The library must leave its lent table as it was.
+    /// The library must leave its lent table as it was, and page slices that it only reads.
     pub fn check_unchanged(&self) -> Result<(), String> {
         if self.lent.still_holds(&self.entries, &self.pool) {
-            return Ok(());
+            return self.compare_read_pages();
         }
         Err(format!("the library changed its table\n{}", self.describe()))
     }
@@ -89,16 +95,20 @@ impl Table {
     /// Prepares a text in both programs.
     pub fn prepare(&self, accepted: bool, collation: u32, text: &[u8], room: usize) -> Result<Agreed<7>, String> {
         let mut key = pattern(room);
-        let answer = library::prepare(PREPARE.form(accepted), collation, text, &self.lent, &mut key).map(|row| Agreed {
-            row,
-            first_key: key,
-            second_key: Vec::new(),
-        });
+        let mut pages = self.lend_pages(accepted, collation)?;
+        let row = if accepted {
+            library::prepare(PREPARE.accepted, collation, text, &self.lent, &mut pages, &mut key)
+        } else {
+            library::prepare(PREPARE.checked, collation, text, &self.lent, &mut pages, &mut key)
+        };
+        drop(pages);
+        let answer = row.map(|row| Agreed { row, first_key: key, second_key: Vec::new() });
         let mut key = pattern(room);
-        let row = collate::prepare(collation, text, &self.verdict, &mut key);
+        let row = collate::prepare(collation, text, &self.verdict, self.paging.lengths, &mut key);
         let expected = Agreed { row, first_key: key, second_key: Vec::new() };
         let case = || Case { collation, first: text.to_vec(), second: Vec::new(), first_room: room, second_room: 0 };
         let agreed = self.agree(PREPARE.name, accepted, || case().describe(), answer, expected)?;
+        self.compare_after(PREPARE.name, accepted, collation, agreed.row[0], || case().describe())?;
         if collation == 3 && !is_within_bounds(text, &agreed.row) {
             return Err(format!("over the bounds: {:?}\n{}{}", agreed.row, case().describe(), self.describe()));
         }
@@ -119,7 +129,7 @@ impl Table {
 
     fn compare<const N: usize>(
         &self,
-        call: Call<Comparing<N>>,
+        call: ComparingCall<N>,
         accepted: bool,
         case: &Case,
         second: fn(&Pair, &mut [u8], &mut [u8]) -> [u64; N],
@@ -127,15 +137,40 @@ impl Table {
         let (mut first_key, mut second_key) = (pattern(case.first_room), pattern(case.second_room));
         let texts = (case.first.as_slice(), case.second.as_slice());
         let buffers = (first_key.as_mut_slice(), second_key.as_mut_slice());
-        let answer = library::compare(call.form(accepted), case.collation, texts, &self.lent, buffers).map(|row| Agreed {
-            row,
-            first_key,
-            second_key,
-        });
+        let mut pages = self.lend_pages(accepted, case.collation)?;
+        let row = if accepted {
+            library::compare(call.accepted, case.collation, texts, &self.lent, &mut pages, buffers)
+        } else {
+            library::compare(call.checked, case.collation, texts, &self.lent, &mut pages, buffers)
+        };
+        drop(pages);
+        let answer = row.map(|row| Agreed { row, first_key, second_key });
         let (mut first_key, mut second_key) = (pattern(case.first_room), pattern(case.second_room));
-        let pair = Pair { collation: case.collation, first: texts.0, second: texts.1, verdict: &self.verdict };
+        let pair = self.pair(case.collation, texts);
         let row = second(&pair, &mut first_key, &mut second_key);
-        self.agree(call.name, accepted, || case.describe(), answer, Agreed { row, first_key, second_key })
+        let agreed = self.agree(call.name, accepted, || case.describe(), answer, Agreed { row, first_key, second_key })?;
+        self.compare_after(call.name, accepted, case.collation, agreed.row[0], || case.describe())?;
+        Ok(agreed)
+    }
+
+    /// Two texts or two lists with this table, as the second program is given them.
+    pub fn pair<'a>(&'a self, collation: u32, (first, second): (&'a [u8], &'a [u8])) -> Pair<'a> {
+        Pair { collation, first, second, verdict: &self.verdict, pages: self.paging.lengths }
+    }
+
+    /// After a call that both programs answer with a number, what it left in the page slices, unless it only reads them.
+    pub fn compare_after(
+        &self,
+        name: &str,
+        accepted: bool,
+        collation: u32,
+        number: u64,
+        case: impl Fn() -> String,
+    ) -> Result<(), String> {
+        if accepted {
+            return Ok(());
+        }
+        self.compare_pages(collation, number).map_err(|difference| format!("{name}, answer {number}\n{}{difference}", case()))
     }
 
     /// Both programs' answers to a case over this table must be the same.
@@ -151,19 +186,26 @@ impl Table {
         agree(|| format!("{name}{twin}\n{}{}", case(), self.describe()), answer, expected)
     }
 
-    /// The forms of a call that the header allows: with the check of the table (false), and without it.
+    /// The forms of a call that the header allows: with the check of the table (false), and without it, for which another call
+    /// must have filled the page slices.
     pub fn forms(&self, collation: u32) -> &'static [bool] {
-        if collation != 3 || self.is_accepted() {
+        if collation != 3 || self.is_accepted() && self.paging.is_enough() {
             &[false, true]
         } else {
             &[false]
         }
     }
 
-    /// Makes every call on one case in all forms, and answers with the row of the last, the substring's.
-    pub fn make_all_calls(&self, case: &Case) -> Result<[u64; 8], String> {
+    /// Makes every call on one case in all forms, and answers with the row of the last, the substring's. Of the calls that fill
+    /// page slices only one is made, whose turn it is.
+    pub fn make_all_calls(&self, case: &Case, turn: usize) -> Result<[u64; 8], String> {
+        let mut forms = self.forms(case.collation);
+        if case.collation == 3 && forms.len() > 1 {
+            self.make_checked_call(case, turn)?;
+            forms = &forms[1..];
+        }
         let mut row = [0; 8];
-        for &accepted in self.forms(case.collation) {
+        for &accepted in forms {
             self.prepare(accepted, case.collation, &case.first, case.first_room)?;
             self.prepare(accepted, case.collation, &case.second, case.second_room)?;
             let equality = self.equal(accepted, case)?.row;
@@ -177,8 +219,19 @@ impl Table {
         Ok(row)
     }
 
+    /// Makes one of the calls on a case in the form that checks the table.
+    fn make_checked_call(&self, case: &Case, turn: usize) -> Result<(), String> {
+        match turn {
+            0 => self.prepare(false, case.collation, &case.first, case.first_room).map(drop),
+            1 => self.equal(false, case).map(drop),
+            2 => self.order(false, case).map(drop),
+            _ => self.substring(false, case).map(drop),
+        }
+    }
+
     pub fn describe(&self) -> String {
-        format!("entries: {}\npool: {}\n", hex_numbers(&self.entries), hex_numbers(&self.pool))
+        let (entries, pool) = (hex_numbers(&self.entries), hex_numbers(&self.pool));
+        format!("entries: {entries}\npool: {pool}\npage slices: {:?}\n", self.paging.lengths)
     }
 }
 

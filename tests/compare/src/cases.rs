@@ -7,12 +7,17 @@ use crate::published::{lines_of, read_unicode_data};
 use crate::random::Random;
 use crate::settings::Settings;
 use crate::stop::Stop;
-use crate::{faults, tables, texts};
+use crate::{faults, page_lookups, tables, texts};
 use second::unicode_data::State;
 use std::collections::BTreeMap;
 
 /// With this many cases every refusal must have come up, or the cases would not be what this part says they are.
 pub const ENOUGH: u64 = 20_000;
+
+/// Of one accepted table in so many, and of each that is about as large as can be (its entries have more than so many numbers),
+/// all code points are looked up in the pages.
+const LOOKED_UP: usize = 250;
+const LARGE: usize = 40_000;
 
 /// How often each answer came.
 #[derive(Default)]
@@ -23,6 +28,8 @@ struct Tally {
     syllables: u64,
     matches: u64,
     runs: u64,
+    /// Tables of which every code point was looked up.
+    looked_up: u64,
 }
 
 pub fn run(settings: &Settings) -> Result<u64, Stop> {
@@ -60,12 +67,17 @@ fn one_table(random: &mut Random, tally: &mut Tally, make: fn(&mut Random) -> ta
         faults::spoil(random, &mut slices);
     }
     let table = Table::new(slices.0, slices.1)?;
-    one_pair(random, tally, &table)
+    if table.is_accepted() && (table.entries.len() > LARGE || random.one_in(LOOKED_UP)) {
+        page_lookups::compare_scalars(&table)?;
+        tally.looked_up += 1;
+    }
+    let [presence, ranks] = tables::page_lengths(random);
+    one_pair(random, tally, &table.lending(presence, ranks).sparing())
 }
 
 fn one_pair(random: &mut Random, tally: &mut Tally, table: &Table) -> Result<(), String> {
     let case = texts::case(random, table);
-    let row = table.make_all_calls(&case)?;
+    let row = table.make_all_calls(&case, random.below(4))?;
     *tally.calls.entry(row[0]).or_default() += 1;
     tally.syllables += (row[0] == 7 && row[2] == table.entries.len() as u64 / 4) as u64;
     if row[3] == 1 && row[5] > 0 {
@@ -103,7 +115,7 @@ fn one_file(random: &mut Random, tally: &mut Tally, published: &Published) -> Re
     building.compare_slices()?;
     let entries = building.entries[..4 * state.entries_used as usize].to_vec();
     let pool = building.pool[..state.pool_used as usize].to_vec();
-    let table = Table::new(entries, pool)?;
+    let table = Table::new(entries, pool)?.sparing();
     if !matches!(table.row()[0], 0 | 7) {
         return Err(format!("a built table is refused: {:?}\n{}", table.row(), table.describe()));
     }
@@ -116,10 +128,12 @@ impl Tally {
         println!("  answers to pairs of texts: {}; of 7 for a syllable: {}", list(&self.calls), self.syllables);
         println!("  answers to lines: {}", list(&self.lines));
         println!("  matches: {}, of them with another place in the text than in the key: {}", self.matches, self.runs);
-        let calls = (0..=8).filter(|number| !self.calls.contains_key(number));
+        println!("  tables in whose pages every scalar code point was looked up: {}", self.looked_up);
+        let calls = (0..=8).chain([15]).filter(|number| !self.calls.contains_key(number));
         let lines = std::iter::once(0).chain(20..=29).filter(|number| !self.lines.contains_key(number));
         let missing: Vec<u64> = calls.chain(lines).collect();
-        if cases >= ENOUGH && (!missing.is_empty() || self.runs == 0 || self.syllables == 0) {
+        let never = [self.runs, self.syllables, self.looked_up].contains(&0);
+        if cases >= ENOUGH && (!missing.is_empty() || never) {
             return Err(Stop::Error(format!("answers that never came: {missing:?}")));
         }
         Ok(())

@@ -1,11 +1,11 @@
-//! Part 1: the checked examples of document 01, and those of records, lists, many texts and Hangul. What stands here is what the
-//! papers say; both programs must answer it.
+//! Part 1: the checked examples of document 01, and those of records, lists, many texts, Hangul and page slices. What stands here
+//! is what the papers say; both programs must answer it.
 
 use crate::both::{pattern, Case, Table};
 use crate::made::lay_out;
 use crate::settings::Settings;
 use crate::stop::Stop;
-use crate::{example_hangul, example_hangul_lines, example_hangul_tables};
+use crate::{example_hangul, example_hangul_lines, example_hangul_tables, example_page_slices};
 use crate::{example_lines, example_lists, example_many, example_records, example_tables, example_titlecases};
 
 /// Table T as code point / titlecase / decomposition.
@@ -43,7 +43,8 @@ pub fn run(_: &Settings) -> Result<u64, Stop> {
     examples.other_collations()?;
     let cases = examples.cases + marks()? + invalid_text()? + example_records::run()? + example_lists::run()?;
     let cases = cases + example_many::run()? + example_tables::run()? + example_lines::run()? + example_titlecases::run()?;
-    Ok(cases + example_hangul::run()? + example_hangul_tables::run()? + example_hangul_lines::run()?)
+    let cases = cases + example_hangul::run()? + example_hangul_tables::run()? + example_hangul_lines::run()?;
+    Ok(cases + example_page_slices::run()?)
 }
 
 /// Table T in both programs.

@@ -29,13 +29,19 @@ impl<T: Copy + PartialEq> Lent<T> {
         let size = (content.len() + GUARDS) * size_of::<T>();
         let mut lent = Lent { at_start: Pages::take(size), at_end: Pages::take(size), length: content.len(), guard };
         for side in SIDES {
-            // SAFETY: see `place` and `guards`; nothing else refers to these pages while they are held.
-            unsafe {
-                from_raw_parts_mut(lent.pointer_mut(side), content.len()).copy_from_slice(content);
-                from_raw_parts_mut(lent.guards(side), GUARDS).fill(guard);
-            }
+            // SAFETY: see `guards`; nothing else refers to these pages while they are held.
+            unsafe { from_raw_parts_mut(lent.guards(side), GUARDS) }.fill(guard);
         }
+        lent.write(content);
         lent
+    }
+
+    /// Puts as many elements as there are into both copies.
+    pub fn write(&mut self, content: &[T]) {
+        for side in SIDES {
+            // SAFETY: see `place`; nothing else refers to these pages while they are held.
+            unsafe { from_raw_parts_mut(self.pointer_mut(side), self.length) }.copy_from_slice(content);
+        }
     }
 
     pub fn length(&self) -> usize {

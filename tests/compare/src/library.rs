@@ -1,7 +1,9 @@
 //! The C calls of the proved library, each made on both copies of its guarded memory. The answers must be the same.
 
-use crate::abi::{mz_add_line, mz_check_table, mz_read_record, mz_write_key, mz_write_text, Comparing, Preparing, Sharing};
+use crate::abi::{mz_add_line, mz_check_table, mz_read_record, mz_write_key, mz_write_text};
+use crate::abi::{Comparing, PagePointer, Preparing, Sharing};
 use crate::lent::{Lent, SIDES};
+use crate::page_slices::PageSlices;
 use second::lists::Report;
 use second::records::Origin;
 use second::unicode_data::State;
@@ -66,7 +68,15 @@ fn row<const N: usize>(answer: &Lent<u64>) -> Result<[u64; N], String> {
 }
 
 /// Prepares one text; the buffer is filled from `buffer` before and copied back after.
-pub fn prepare(call: Preparing, collation: u32, text: &[u8], table: &LentTable, buffer: &mut [u8]) -> Result<[u64; 7], String> {
+pub fn prepare<P: PagePointer>(
+    call: Preparing<P>,
+    collation: u32,
+    text: &[u8],
+    table: &LentTable,
+    pages: &mut PageSlices,
+    buffer: &mut [u8],
+) -> Result<[u64; 7], String> {
+    let lengths = pages.lengths();
     let lent_text = Lent::new(text, OCTET_GUARD);
     let mut key = Lent::new(buffer, OCTET_GUARD);
     let mut answer = new_row::<7>();
@@ -81,6 +91,10 @@ pub fn prepare(call: Preparing, collation: u32, text: &[u8], table: &LentTable, 
                 table.entries.length(),
                 table.pool.pointer(side),
                 table.pool.length(),
+                P::of(pages.presence(side)),
+                lengths.presence,
+                P::of(pages.ranks(side)),
+                lengths.ranks,
                 key.pointer_mut(side),
                 key.length(),
                 answer.pointer_mut(side).cast(),
@@ -95,13 +109,15 @@ pub fn prepare(call: Preparing, collation: u32, text: &[u8], table: &LentTable, 
 }
 
 /// Makes one of the comparing calls; both buffers are filled from the arguments before and copied back after.
-pub fn compare<const N: usize>(
-    call: Comparing<N>,
+pub fn compare<const N: usize, P: PagePointer>(
+    call: Comparing<N, P>,
     collation: u32,
     (first, second): (&[u8], &[u8]),
     table: &LentTable,
+    pages: &mut PageSlices,
     (first_buffer, second_buffer): (&mut [u8], &mut [u8]),
 ) -> Result<[u64; N], String> {
+    let lengths = pages.lengths();
     let lent_first = Lent::new(first, OCTET_GUARD);
     let lent_second = Lent::new(second, OCTET_GUARD);
     let mut first_key = Lent::new(first_buffer, OCTET_GUARD);
@@ -120,6 +136,10 @@ pub fn compare<const N: usize>(
                 table.entries.length(),
                 table.pool.pointer(side),
                 table.pool.length(),
+                P::of(pages.presence(side)),
+                lengths.presence,
+                P::of(pages.ranks(side)),
+                lengths.ranks,
                 first_key.pointer_mut(side),
                 first_key.length(),
                 second_key.pointer_mut(side),
@@ -234,13 +254,15 @@ pub fn write_key(origin: Origin, key: &[u8], records: &mut Lent<u8>, position: u
 }
 
 /// Finds what two lists share; store and arrays are filled from the report before and copied back after.
-pub fn find_shared(
-    call: Sharing,
+pub fn find_shared<P: PagePointer>(
+    call: Sharing<P>,
     collation: u32,
     (first, second): (&[u8], &[u8]),
     table: &LentTable,
+    pages: &mut PageSlices,
     report: Report,
 ) -> Result<[u64; 7], String> {
+    let lengths = pages.lengths();
     let lent_first = lend_records(first);
     let lent_second = lend_records(second);
     let mut store = Lent::new(report.store, OCTET_GUARD);
@@ -260,6 +282,10 @@ pub fn find_shared(
                 table.entries.length(),
                 table.pool.pointer(side),
                 table.pool.length(),
+                P::of(pages.presence(side)),
+                lengths.presence,
+                P::of(pages.ranks(side)),
+                lengths.ranks,
                 store.pointer_mut(side),
                 store.length(),
                 partners.pointer_mut(side),

@@ -9,12 +9,13 @@ use crate::records::with_damage;
 use crate::settings::Settings;
 use crate::sharing::{list_of, Lists, Rooms};
 use crate::stop::Stop;
+use second::pages::PAGES;
 
 /// Room for the report on every small list of this part.
 const ENOUGH: Rooms = Rooms { store: 64, partners: 9, positions: 9 };
 
 pub fn run(settings: &Settings) -> Result<u64, Stop> {
-    let table = table_t()?;
+    let table = table_t()?.sparing();
     let small = small(&table, settings.short)?;
     let damaged = damaged(&table, settings.short)?;
     let cuts = cuts(&table)?;
@@ -141,7 +142,7 @@ fn rooms(table: &Table) -> Result<u64, String> {
 type Fault = (u64, Vec<u8>);
 
 /// Each refusal beside each other: the first of the order is given. "Order 1, then 11 to 13 on the first list .., and on the
-/// second .., 14 .., the table's 3 to 7, 8 for the store .., then 8 for either array."
+/// second .., 14 .., the table's 3 to 7", 15, "8 for the store .., then 8 for either array."
 fn orders(short: bool) -> Result<u64, String> {
     let after_good = |rest: &[u8]| [&good(), rest].concat();
     let faults: [Fault; 5] = [
@@ -151,10 +152,7 @@ fn orders(short: bool) -> Result<u64, String> {
         (13, after_good(&record(1, &[0; 4_097]))),
         (14, list_of(&vec!["x"; 1_025])),
     ];
-    let mut tables = vec![(table_t()?, [0; 3])];
-    for (entries, pool, refusal) in faulty_tables().into_iter().skip(if short { 4 } else { 0 }) {
-        tables.push((Table::new(entries, pool)?, refusal));
-    }
+    let tables = refused_tables(short)?;
     let mut cases = 0;
     for (table, refusal) in &tables {
         for first in &faults {
@@ -167,6 +165,22 @@ fn orders(short: bool) -> Result<u64, String> {
         }
     }
     Ok(cases)
+}
+
+/// Tables and what is refused of them or of the page slices lent with them, which comes straight after: table T with enough of
+/// both and with too little of each, then one table for each of 3 to 7, or for 7 alone, and 7 with too little of both.
+pub fn refused_tables(short: bool) -> Result<Vec<(Table, [u64; 3])>, String> {
+    let mut tables = vec![(table_t()?, [0; 3])];
+    for (presence, ranks) in [(PAGES - 1, PAGES), (PAGES, PAGES - 1)] {
+        tables.push((table_t()?.lending(presence, ranks), [15, 0, 0]));
+    }
+    for (entries, pool, refusal) in faulty_tables().into_iter().skip(if short { 4 } else { 0 }) {
+        tables.push((Table::new(entries.clone(), pool.clone())?, refusal));
+        if refusal[0] == 7 {
+            tables.push((Table::new(entries, pool)?.lending(PAGES - 1, PAGES - 1), refusal));
+        }
+    }
+    Ok(tables.into_iter().map(|(table, refusal)| (table.sparing(), refusal)).collect())
 }
 
 /// Two lists, each with its fault or none, in rooms that are enough or too short.

@@ -5,8 +5,8 @@
 //! at fault, or a part would run no case. A read or write outside a lent slice ends the process by SIGSEGV (see `pages`).
 //!
 //! Variables: MZ_SEED and MZ_CASES (the random parts), MZ_UNICODE_DATA, MZ_NFKD and MZ_NORMALIZATION (files of part 2), UTF8_TEST
-//! (the published stress test, if it is at hand), MZ_SHORT=yes (part 2 without the scalar code points and NFKD, fewer cases in
-//! 3, 4 and 6 to 9), MZ_PARTS (the numbers of the parts to run, all without it).
+//! (the published stress test, if it is at hand), MZ_SHORT=yes (part 2 without the keys of all scalar code points and NFKD, fewer
+//! cases in 3, 4 and 6 to 9), MZ_PARTS (the numbers of the parts to run, all without it).
 
 mod abi;
 mod both;
@@ -18,6 +18,7 @@ mod example_hangul_tables;
 mod example_lines;
 mod example_lists;
 mod example_many;
+mod example_page_slices;
 mod example_records;
 mod example_tables;
 mod example_titlecases;
@@ -35,7 +36,11 @@ mod made;
 mod many;
 mod many_cases;
 mod matching;
+mod page_calls;
+mod page_lookups;
+mod page_slices;
 mod pages;
+mod paging;
 mod preparing;
 mod published;
 mod published_normalization;
@@ -96,6 +101,7 @@ fn run_parts() -> Result<(), Stop> {
     println!("seed {}, {} random cases", settings.seed, settings.cases);
     for part in parts {
         let cases = (part.run)(&settings).map_err(|stop| stop.in_part(part.name))?;
+        paging::compare_free().map_err(|difference| Stop::from(difference).in_part(part.name))?;
         if cases == 0 {
             return Err(Stop::Error(format!("{}: no case was run", part.name)));
         }

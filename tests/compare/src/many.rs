@@ -2,9 +2,9 @@
 //! ones. What the two calls tell of short lists is what the call on lists tells.
 
 use crate::both::Table;
-use crate::example_lists::faulty_tables;
 use crate::example_many::{refuses, refuses_keys};
 use crate::examples::{expect, table_t};
+use crate::lists::refused_tables;
 use crate::many_cases;
 use crate::matching::{KeyRooms, Keys};
 use crate::preparing::{TextRooms, Texts};
@@ -14,7 +14,7 @@ use crate::stop::Stop;
 use crate::texts::key;
 
 pub fn run(settings: &Settings) -> Result<u64, Stop> {
-    let table = table_t()?;
+    let table = table_t()?.sparing();
     let small = small(&table, settings.short)?;
     let ends = ends(&table, settings.short)?;
     let rooms = rooms(&table)? + key_rooms()?;
@@ -137,15 +137,11 @@ fn key_rooms() -> Result<u64, String> {
     Ok(cases)
 }
 
-/// Each refusal of texts beside each other: the first of the order is given. "1; 14, 36; 2; 3 to 7 as above; 8 for the store, 8
-/// for the other two slices."
+/// Each refusal of texts beside each other: the first of the order is given. "1; 14, 36; 2; 3 to 7", 15, "8 for the store, 8 for
+/// the other two slices."
 fn orders(short: bool) -> Result<u64, String> {
-    let mut tables = vec![(table_t()?, [0; 3])];
-    for (entries, pool, refusal) in faulty_tables().into_iter().skip(if short { 4 } else { 0 }) {
-        tables.push((Table::new(entries, pool)?, refusal));
-    }
     let mut cases = 0;
-    for (table, of_table) in &tables {
+    for (table, of_table) in &refused_tables(short)? {
         for collation in [1, 3, 4] {
             for (falls, is_long) in [(false, false), (false, true), (true, false), (true, true)] {
                 let of_table = if collation == 3 { *of_table } else { [0; 3] };

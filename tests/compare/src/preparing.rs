@@ -92,10 +92,15 @@ impl Table {
     pub fn prepare_slices(&self, collation: u32, texts: Many, rooms: TextRooms) -> Result<Prepared, String> {
         let mut prepared = Prepared::untouched(rooms);
         let mut expected = prepared.clone();
-        expected.row = many::prepare_many(collation, texts, &self.verdict, &mut expected.slices());
-        let row = library::prepare_many(collation, texts, &self.lent, prepared.slices());
+        expected.row = many::prepare_many(collation, texts, &self.verdict, self.paging.lengths, &mut expected.slices());
+        let mut pages = self.lend_pages(false, collation)?;
+        let row = library::prepare_many(collation, texts, &self.lent, &mut pages, prepared.slices());
+        drop(pages);
         let answer = row.map(|row| Prepared { row, ..prepared });
+        let case = || describe(collation, texts, rooms);
+        let agreed = self.agree("Prepare many", false, case, answer, expected)?;
+        self.compare_after("Prepare many", false, collation, agreed.row[0], case)?;
         self.check_unchanged()?;
-        self.agree("Prepare many", false, || describe(collation, texts, rooms), answer, expected)
+        Ok(agreed)
     }
 }

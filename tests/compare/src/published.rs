@@ -1,11 +1,12 @@
-//! Part 2: the published UnicodeData.txt, every scalar code point over it, and NFKD as Python's unicodedata has it.
+//! Part 2: the published UnicodeData.txt, every scalar code point over it and in its pages, and NFKD as Python's unicodedata has
+//! it.
 
 use crate::both::Table;
 use crate::building::Building;
 use crate::hex::hex;
 use crate::settings::Settings;
 use crate::stop::Stop;
-use crate::{published_normalization, published_titlecases};
+use crate::{page_lookups, published_normalization, published_titlecases};
 use second::hangul::is_syllable;
 use second::unicode_data::State;
 
@@ -47,8 +48,10 @@ pub fn run(settings: &Settings) -> Result<u64, Stop> {
     let lines = lines_of(&octets);
     // Before anything takes long: a file that is missing is told at once.
     let files = if settings.short { None } else { Some((read_nfkd(settings)?, published_normalization::read(settings)?)) };
-    let table = build(&lines)?;
+    let table = build(&lines)?.sparing();
     let built_from = lines.len() as u64 + published_titlecases::run(&lines, &table)?;
+    page_lookups::compare_scalars(&table)?;
+    println!("  {SCALARS} scalar code points, each found in the pages as in the entries");
     let Some((nfkd, normalization)) = files else { return Ok(built_from) };
     one_by_one(&table)?;
     in_long_texts(&table)?;

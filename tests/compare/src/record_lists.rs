@@ -188,7 +188,7 @@ fn one_writing(random: &mut Random, tally: &mut Tally) -> Result<(), String> {
 /// another the text.
 fn one_prepared(random: &mut Random, tally: &mut Tally) -> Result<(), String> {
     let (entries, pool) = tables::any(random);
-    let table = Table::new(entries, pool)?;
+    let table = Table::new(entries, pool)?.sparing();
     let case = texts::case(random, &table);
     let prepared = table.prepare(false, case.collation, &case.first, case.first_room)?;
     let row = prepared.row;

@@ -5,7 +5,6 @@ use crate::both::{number_pattern, pattern, Describe, Table};
 use crate::hex::{hex, hex_numbers};
 use crate::library;
 use crate::recording::record;
-use second::collate::Pair;
 use second::lists::{self, Report};
 
 /// Two lists under a collation.
@@ -77,15 +76,21 @@ impl Table {
     pub fn find_shared(&self, lists: &Lists, rooms: Rooms) -> Result<Shared, String> {
         let untouched = Shared::untouched(rooms);
         let mut expected = untouched.clone();
-        let pair = Pair { collation: lists.collation, first: &lists.first, second: &lists.second, verdict: &self.verdict };
+        let octets = (&lists.first[..], &lists.second[..]);
+        let pair = self.pair(lists.collation, octets);
         expected.row = lists::find_shared(&pair, &mut expected.report());
         for &accepted in self.forms(lists.collation) {
             let mut shared = untouched.clone();
-            let octets = (pair.first, pair.second);
-            let call = FIND_SHARED.form(accepted);
-            let row = library::find_shared(call, lists.collation, octets, &self.lent, shared.report());
+            let mut pages = self.lend_pages(accepted, lists.collation)?;
+            let row = if accepted {
+                library::find_shared(FIND_SHARED.accepted, lists.collation, octets, &self.lent, &mut pages, shared.report())
+            } else {
+                library::find_shared(FIND_SHARED.checked, lists.collation, octets, &self.lent, &mut pages, shared.report())
+            };
+            drop(pages);
             let answer = row.map(|row| Shared { row, ..shared });
             expected = self.agree(FIND_SHARED.name, accepted, || lists.describe(rooms), answer, expected)?;
+            self.compare_after(FIND_SHARED.name, accepted, lists.collation, expected.row[0], || lists.describe(rooms))?;
         }
         self.check_unchanged()?;
         Ok(expected)

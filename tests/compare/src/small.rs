@@ -3,6 +3,7 @@
 use crate::both::{Case, Table};
 use crate::building::Building;
 use crate::examples::table_t;
+use crate::page_lookups;
 use crate::settings::Settings;
 use crate::stop::Stop;
 use second::key::key_of;
@@ -14,8 +15,10 @@ pub fn run(settings: &Settings) -> Result<u64, Stop> {
     let cuts = cuts(if settings.short { 2 } else { 4 })?;
     let tables = tables(settings.short)?;
     let lines = lines()?;
+    let largest = page_lookups::largest(settings.short)?;
     println!("  {found} words in words, {cuts} cuts of keys, {tables} tables of one or two entries, {lines} changed lines");
-    Ok(found + cuts + tables + lines)
+    println!("  {largest} tables as large as can be, in whose pages every scalar code point was looked up");
+    Ok(found + cuts + tables + lines + largest)
 }
 
 /// Every word of at most so many letters, over two letters.
@@ -29,9 +32,9 @@ fn words_up_to(longest: usize) -> Vec<Vec<u8>> {
     words
 }
 
-/// Every short word sought in every longer one: the lowest occurrence, with all overlaps.
+/// Every short word sought in every longer one: the lowest occurrence, with all overlaps. Collation 1 needs no pages.
 fn words(needle: usize, hay: usize) -> Result<u64, String> {
-    let table = Table::new(vec![], vec![])?;
+    let table = Table::new(vec![], vec![])?.lending(0, 0);
     let (needles, hays) = (words_up_to(needle), words_up_to(hay));
     for first in &needles {
         for second in &hays {

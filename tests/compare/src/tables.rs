@@ -4,8 +4,18 @@ use crate::examples::T;
 use crate::korean::make_korean;
 use crate::made::{lay_out, Mappings};
 use crate::random::Random;
+use second::pages::PAGES;
 
 pub type Slices = (Vec<u32>, Vec<u32>);
+
+/// The lengths of the two page slices: mostly enough, and now and then too short.
+pub fn page_lengths(random: &mut Random) -> [usize; 2] {
+    [(); 2].map(|()| match random.below(24) {
+        0 => random.pick(&[0, PAGES - 1]),
+        1..=8 => PAGES,
+        _ => PAGES + 5,
+    })
+}
 
 /// A code point of one to four octets, near an edge or anywhere.
 pub fn code_point(random: &mut Random) -> u32 {

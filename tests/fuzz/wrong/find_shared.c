@@ -11,11 +11,13 @@
 #define PAIRS_ARE_NAMES 7
 #define EMPTY_LISTS_SKIP_TABLE 8
 #define PLACE_OF_THE_OTHER_LIST 9
+#define FILLS_SHORT_PAGES 10
 
 void proved_mz_find_shared(uint32_t collation, const uint8_t *first, size_t first_length, const uint8_t *second,
                            size_t second_length, const uint32_t *entries, size_t entries_length, const uint32_t *pool,
-                           size_t pool_length, uint8_t *store, size_t store_length, uint32_t *partners, size_t partners_length,
-                           uint32_t *positions, size_t positions_length, uint64_t answer[7]);
+                           size_t pool_length, uint64_t *presence, size_t presence_length, uint64_t *ranks, size_t ranks_length,
+                           uint8_t *store, size_t store_length, uint32_t *partners, size_t partners_length, uint32_t *positions,
+                           size_t positions_length, uint64_t answer[7]);
 
 static volatile uint64_t read;
 
@@ -42,19 +44,22 @@ static void spoil_report(uint32_t *partners, size_t partners_length, uint32_t *p
 }
 
 void mz_find_shared(uint32_t collation, const uint8_t *first, size_t first_length, const uint8_t *second, size_t second_length,
-                    const uint32_t *entries, size_t entries_length, const uint32_t *pool, size_t pool_length, uint8_t *store,
-                    size_t store_length, uint32_t *partners, size_t partners_length, uint32_t *positions, size_t positions_length,
-                    uint64_t answer[7]) {
+                    const uint32_t *entries, size_t entries_length, const uint32_t *pool, size_t pool_length, uint64_t *presence,
+                    size_t presence_length, uint64_t *ranks, size_t ranks_length, uint8_t *store, size_t store_length,
+                    uint32_t *partners, size_t partners_length, uint32_t *positions, size_t positions_length, uint64_t answer[7]) {
     if (WRONG == READS_AFTER_SECOND_LIST)
         read = second[second_length];
     if (WRONG == READS_AFTER_POSITIONS)
         read = positions[positions_length];
-    proved_mz_find_shared(collation, first, first_length, second, second_length, entries, entries_length, pool, pool_length, store,
-                          store_length, partners, partners_length, positions, positions_length, answer);
+    proved_mz_find_shared(collation, first, first_length, second, second_length, entries, entries_length, pool, pool_length,
+                          presence, presence_length, ranks, ranks_length, store, store_length, partners, partners_length,
+                          positions, positions_length, answer);
     if (answer[0] == 0)
         spoil_report(partners, partners_length, positions, answer);
     if (WRONG == WRITES_ON_REFUSAL && answer[0] == MZ_REFUSED_LIST_ROOM && store_length > 0)
         store[0] = 0;
+    if (WRONG == FILLS_SHORT_PAGES && answer[0] == MZ_REFUSED_PAGES && presence_length > 0)
+        presence[0] = 0;
     if (WRONG == PLACE_OF_THE_OTHER_LIST && answer[0] == MZ_REFUSED_NAME_COUNT)
         answer[1] = 3 - answer[1];
     if (WRONG == EMPTY_LISTS_SKIP_TABLE && first_length + second_length == 0 && answer[0] >= MZ_REFUSED_TABLE_SIZE)

@@ -1,6 +1,8 @@
-//! The public calls, each with its refusals in the paper's order. They answer with the rows that the C header describes.
+//! The public calls, each with its refusals in the paper's order. They answer with the rows that the C header describes. What
+//! they leave in the page slices goes by the answer, and `pages` tells it.
 
 use crate::key::{key_of, Key, ASCII_CASEMAP, OCTET, UNICODE_CASEMAP};
+use crate::pages::{self, Lengths};
 use crate::refusal::Refusal;
 use crate::substring;
 use crate::table::{examine, Table, Verdict};
@@ -8,12 +10,13 @@ use std::cmp::Ordering;
 
 pub const TEXT_MOST: usize = 4_096;
 
-/// Two texts or two lists, and the verdict on the table that is lent with them.
+/// Two texts or two lists, the verdict on the table that is lent with them, and how long the page slices are.
 pub struct Pair<'a> {
     pub collation: u32,
     pub first: &'a [u8],
     pub second: &'a [u8],
     pub verdict: &'a Verdict,
+    pub pages: Lengths,
 }
 
 /// "The table may be checked by itself, with answers 3 to 7 or accepted."
@@ -29,8 +32,8 @@ pub fn verdict_row(verdict: &Verdict) -> [u64; 3] {
 }
 
 /// Preparation. The verdict stands for the lent table: a caller with many texts has it checked once.
-pub fn prepare(collation: u32, text: &[u8], verdict: &Verdict, buffer: &mut [u8]) -> [u64; 7] {
-    match leave_keys(collation, &[text], verdict, &mut [buffer]) {
+pub fn prepare(collation: u32, text: &[u8], verdict: &Verdict, pages: Lengths, buffer: &mut [u8]) -> [u64; 7] {
+    match leave_keys(collation, &[text], verdict, pages, &mut [buffer]) {
         Err(refusal) => refusal.row(),
         Ok(keys) => {
             let key = &keys[0];
@@ -84,15 +87,23 @@ pub(crate) fn order_of(first: &[u8], second: &[u8]) -> Ordering {
 /// "Comparing calls leave both keys so, each in its own buffer."
 fn leave_both(pair: &Pair, first_buffer: &mut [u8], second_buffer: &mut [u8]) -> Result<Vec<Key>, Refusal> {
     let texts = [pair.first, pair.second];
-    leave_keys(pair.collation, &texts, pair.verdict, &mut [first_buffer, second_buffer])
+    leave_keys(pair.collation, &texts, pair.verdict, pair.pages, &mut [first_buffer, second_buffer])
 }
 
-/// All checks, then the keys: those that belong in a buffer stand at its start, "and octets after the key stay".
-fn leave_keys(collation: u32, texts: &[&[u8]], verdict: &Verdict, buffers: &mut [&mut [u8]]) -> Result<Vec<Key>, Refusal> {
+/// All checks, 15 "after 7 and before 8", then the keys: those that belong in a buffer stand at its start, "and octets after the
+/// key stay".
+fn leave_keys(
+    collation: u32,
+    texts: &[&[u8]],
+    verdict: &Verdict,
+    pages: Lengths,
+    buffers: &mut [&mut [u8]],
+) -> Result<Vec<Key>, Refusal> {
     check_collation(collation)?;
     check_texts(texts)?;
     let empty = Table::default();
     let table = table_under(collation, verdict, &empty)?;
+    pages::check(collation, pages)?;
     let keys: Vec<Key> = texts.iter().map(|text| key_of(collation, text, table)).collect();
     check_room(&keys, buffers)?;
     for (key, buffer) in keys.iter().zip(buffers.iter_mut()) {
@@ -120,7 +131,7 @@ fn check_texts(texts: &[&[u8]]) -> Result<(), Refusal> {
 }
 
 /// "Collations 1 and 2 don't read the table. Every public call under 3 checks it."
-fn reads_table(collation: u32) -> bool {
+pub(crate) fn reads_table(collation: u32) -> bool {
     collation == UNICODE_CASEMAP
 }
 

@@ -10,6 +10,7 @@ pub mod hangul;
 pub mod key;
 pub mod lists;
 pub mod many;
+pub mod pages;
 pub mod records;
 pub mod refusal;
 pub mod substring;

@@ -3,6 +3,7 @@
 
 use crate::collate::{check_collation, order_of, table_under, Pair};
 use crate::key::key_of;
+use crate::pages;
 use crate::records::{is_text, open, whole_length, TEXT};
 use crate::refusal::Refusal;
 use crate::table::Table;
@@ -32,8 +33,8 @@ pub fn find_shared(lists: &Pair, report: &mut Report) -> [u64; 7] {
     }
 }
 
-/// The checks: "order 1, then 11 to 13 on the first list, record by record, and on the second .., 14 .., the table's 3 to 7, 8 for
-/// the store .., then 8 for either array". Then the keys of both lists.
+/// The checks: "order 1, then 11 to 13 on the first list, record by record, and on the second .., 14 .., the table's 3 to 7", 15,
+/// "8 for the store .., then 8 for either array". Then the keys of both lists.
 fn check(lists: &Pair, report: &Report) -> Result<[Keys; 2], Refusal> {
     check_collation(lists.collation)?;
     let first = read_list(0, lists.first)?;
@@ -42,6 +43,7 @@ fn check(lists: &Pair, report: &Report) -> Result<[Keys; 2], Refusal> {
     check_count(1, &second)?;
     let empty = Table::default();
     let table = table_under(lists.collation, lists.verdict, &empty)?;
+    pages::check(lists.collation, lists.pages)?;
     let keys = [first, second].map(|names| keys_of(lists.collation, &names, table));
     check_store(&keys, report)?;
     check_arrays(&keys[0], report)?;

@@ -4,6 +4,7 @@
 use crate::collate::{check_collation, table_under, TEXT_MOST};
 use crate::key::{key_of, Key};
 use crate::lists::{equal_pairs, partners, positions};
+use crate::pages::{self, Lengths};
 use crate::refusal::Refusal;
 use crate::table::{Table, Verdict};
 
@@ -32,8 +33,8 @@ pub struct Matched<'a> {
 }
 
 /// "Prepares many texts, each by itself": the answer has "the octets of all keys together".
-pub fn prepare_many(collation: u32, texts: Many, verdict: &Verdict, prepared: &mut Prepared) -> [u64; 4] {
-    match check_texts(collation, texts, verdict, prepared) {
+pub fn prepare_many(collation: u32, texts: Many, verdict: &Verdict, pages: Lengths, prepared: &mut Prepared) -> [u64; 4] {
+    match check_texts(collation, texts, verdict, pages, prepared) {
         Err(refusal) => refusal.row(),
         Ok(keys) => {
             leave_keys(&keys, prepared);
@@ -57,13 +58,14 @@ pub fn match_keys(keys: Many, first_names: usize, matched: &mut Matched) -> [u64
     }
 }
 
-/// The checks on texts: "1; 14, 36; 2; 3 to 7 as above; 8 for the store, 8 for the other two slices". Then the keys.
-fn check_texts(collation: u32, texts: Many, verdict: &Verdict, prepared: &Prepared) -> Result<Vec<Key>, Refusal> {
+/// The checks on texts: "1; 14, 36; 2; 3 to 7", 15, "8 for the store, 8 for the other two slices". Then the keys.
+fn check_texts(collation: u32, texts: Many, verdict: &Verdict, pages: Lengths, prepared: &Prepared) -> Result<Vec<Key>, Refusal> {
     check_collation(collation)?;
     let texts = cut(texts)?;
     check_lengths(&texts)?;
     let empty = Table::default();
     let table = table_under(collation, verdict, &empty)?;
+    pages::check(collation, pages)?;
     let keys: Vec<Key> = texts.iter().map(|text| key_of(collation, text, table)).collect();
     check_room(prepared.store.len(), total(&keys))?;
     check_room(prepared.key_ends.len(), keys.len())?;

@@ -10,10 +10,13 @@ use mathlib.Core.Logic.{⊎-elim}
 use lib.ListN.{length, getD}
 use borrow.Author.Needs.{needs}
 use borrow.Author.Tests.{not-true, not-false}
+use Rattle.terms.specs.CodePoints.{scalar}
+use Rattle.terms.proofs.Lists.{all-at}
 use Rattle.hangul.specs.Hangul.{syllable}
 use Rattle.hangul.proofs.Syllables.{length-jamoOf}
 use Rattle.table.specs.Mapping.{Mapping}
 use Rattle.table.specs.Table.{Table, table, mappingOf}
+use Rattle.table.proofs.Form.{formed-parts-scalar}
 use Rattle.decompose.specs.Promises.{Split, FullCounted}
 use Rattle.decompose.specs.declared.Unfolded.{Unfolded}
 use Rattle.decompose.proofs.Walk.{counted-whole, syllable-split, listed-none, listed-some, listed-jamo, listed-split}
@@ -26,22 +29,22 @@ use Rattle.decompose.proofs.size_unfolded.Kinds as kinds
 use Rattle.decompose.proofs.+size_unfolded.Lts-size_unfolded as lts
 use Rattle.hangul.proofs.jamo_of.Reads as jamo-of-reads
 use Rattle.hangul.proofs.parts_among.Reads as parts-among-reads
-use Rattle.table.proofs.entry_parts.Reads as entry-parts-reads
+use Rattle.pages.proofs.entry_parts.Reads as entry-parts-reads
 use Rattle.decompose.proofs.decomposes.Reads as decomposes-reads
 use Rattle.utf8.proofs.octet_count.Reads as octet-count-reads
 use Rattle.decompose.proofs.+size_unfolded.{statement}
 use Rattle.decompose.proofs.+size_unfolded.Tie.{close}
 
 -- the recursion's measure: twice the levels left, and one where there are no parts
-abbrev μ-size-unfolded : Measures 3 kinds.ps ℕ
+abbrev μ-size-unfolded : Measures 5 kinds.ps ℕ
 μ-size-unfolded κs a = 2 * a .0 + (1 - length (a .1 .1 .0 .now))
 
 -- what the function is given at the measure t, and what a call of itself asks below t
-abbrev at : ℕ → In 3 kinds.ps
-at t = and 3 kinds.ps (is 3 kinds.ps μ-size-unfolded t) reads.Pre
+abbrev at : ℕ → In 5 kinds.ps
+at t = and 5 kinds.ps (is 5 kinds.ps μ-size-unfolded t) reads.Pre
 
-abbrev below : ℕ → In 3 kinds.ps
-below t = and 3 kinds.ps (falls 3 kinds.ps _<_ μ-size-unfolded t) reads.Pre
+abbrev below : ℕ → In 5 kinds.ps
+below t = and 5 kinds.ps (falls 5 kinds.ps _<_ μ-size-unfolded t) reads.Pre
 
 abbrev claims : ℕ → lts.Claims
 claims t = (
@@ -60,14 +63,14 @@ claims t = (
 )
 
 abbrev Inv-loop : lts.InvT-loop
-Inv-loop levels-left parts entries pool octets₀ asked₀ i₀ octets asked i =
+Inv-loop levels-left parts entries pool presence ranks octets₀ asked₀ i₀ octets asked i =
     Sizing (mappingOf (table entries pool)) (levels-left - 1) parts octets asked i
 
 abbrev μ-loop : lts.MeasureT-loop
-μ-loop levels-left parts entries pool octets₀ asked₀ i₀ octets asked i = length parts - i
+μ-loop levels-left parts entries pool presence ranks octets₀ asked₀ i₀ octets asked i = length parts - i
 
 -- a need, or a place of the code, at the measure t
-abbrev Of : ℕ → (lts.Claims → In 3 kinds.ps → Out 3 kinds.ps kinds.r → lts.InvT-loop → lts.MeasureT-loop → Type 0) → Type 0
+abbrev Of : ℕ → (lts.Claims → In 5 kinds.ps → Out 5 kinds.ps kinds.r → lts.InvT-loop → lts.MeasureT-loop → Type 0) → Type 0
 Of t F = F (claims t) (at t) reads.Post Inv-loop μ-loop
 
 -- at the function's entry: the table, and its mapping
@@ -78,12 +81,12 @@ abbrev mapping : (t : ℕ) → Of t lts.Start → Mapping
 mapping t s = mappingOf (lent t s)
 
 -- where there are no parts, it is a syllable
-ruled : (t : ℕ) (c : Of t lts.Then1) → syllable (c .before .before .before .before .args .c .0) ≡ true
-ruled t c = c .before .before .before .before .pre .1 .1 .0 .by-rule (c .if1 .taken)
+ruled : (t : ℕ) (c : Of t lts.Then1) → syllable (c .before .before .before .before .before .before .args .c .0) ≡ true
+ruled t c = c .before .before .before .before .before .before .pre .1 .1 .0 .by-rule (c .if1 .taken)
 
 -- where there are some: the function's entry, that they are its parts, and that a level is left
 abbrev entry : (t : ℕ) → Of t lts.Else1 → Of t lts.Start
-entry t c = c .before .before .before .before
+entry t c = c .before .before .before .before .before .before
 
 split : (t : ℕ) (c : Of t lts.Else1) → Split (mapping t (entry t c)) (entry t c .args .c .0) (entry t c .args .parts .now)
 split t c = listed-split (entry t c .pre .1 .1 .0) (c .if1 .left)
@@ -153,7 +156,7 @@ parts-among-requires t c κs = (ruled t (c .before .before), c .before .jamo-of 
 size-unfolded-requires : (t : ℕ) → Of t lts.Need-size-unfolded-requires
 size-unfolded-requires t c κs =
     let none = c .before .before .before in
-    let s = none .before .before .before .before in
+    let s = none .before .before .before .before .before .before in
     let listed = listed-jamo (lent t s) (s .args .c .0) _ (ruled t none) (c .parts-among .ensures) in
     let some = syllable-split (lent t s) (s .args .c .0) (ruled t none) (c .parts-among .ensures) .some in
     (omega (arith, s .pre .0, none .if1 .taken, some), (s .pre .1 .0, (listed, s .pre .1 .1 .1)))
@@ -166,14 +169,20 @@ loop-holds : (t : ℕ) → Of t lts.Need-loop-holds
 loop-holds t c = sizing-start
 
 -- an index fits
-mul-t19 : (t : ℕ) → Of t lts.Need-mul-t19
-mul-t19 t c = omega (arith, c .loop-test .taken)
+mul-t21 : (t : ℕ) → Of t lts.Need-mul-t21
+mul-t21 t c = omega (arith, c .loop-test .taken)
 
-shared-slice-read-t22 : (t : ℕ) → Of t lts.Need-shared-slice-read-t22
-shared-slice-read-t22 t c = c .before .loop-test .taken
+shared-slice-read-t24 : (t : ℕ) → Of t lts.Need-shared-slice-read-t24
+shared-slice-read-t24 t c = c .before .loop-test .taken
 
 entry-parts-requires : (t : ℕ) → Of t lts.Need-entry-parts-requires
-entry-parts-requires t c κs = entry t (c .before .before .before) .pre .1 .0
+entry-parts-requires t c κs =
+    let l = c .before .before in
+    let some = l .before in
+    let s = entry t some in
+    let scalars = formed-parts-scalar (lent t s) (s .pre .1 .0 .form) (s .args .c .0) in
+    let one = all-at scalar (s .args .parts .now) (l .loop .i) 0 (rw (split t some .parts) scalars) (c .before .loop-test .taken) in
+    (s .pre .1 .0, one)
 
 decomposes-requires : (t : ℕ) → Of t lts.Need-decomposes-requires
 decomposes-requires t c κs = search needs
@@ -199,7 +208,7 @@ size-unfolded-requires-2 t c κs =
     let some = some-parts t looked in
     let s = start t looked in
     let splits = sym (looked .decomposes .ensures) ∙ not-false _ (c .if2 .left) in
-    let listed = listed-some (lent t s) (part t looked) _ (s .pre .1 .0) (looked .before .entry-parts .ensures) splits in (
+    let listed = listed-some (lent t s) (part t looked) _ (s .pre .1 .0 .form) (looked .before .entry-parts .ensures) splits in (
       omega (arith, level t some, s .pre .0, split t some .some),
       (s .pre .1 .0, (listed, bounded-part (s .pre .1 .1 .1) (split t some) (head t looked .loop .i) (taken t looked))),
     )
@@ -252,8 +261,8 @@ pub +size-unfolded-spec : {M : Type 1} → statement M
     (size-unfolded-requires t)
     (returns t)
     (loop-holds t)
-    (mul-t19 t)
-    (shared-slice-read-t22 t)
+    (mul-t21 t)
+    (shared-slice-read-t24 t)
     (entry-parts-requires t)
     (decomposes-requires t)
     (octet-count-requires t)

@@ -36,22 +36,22 @@ use Rattle.decompose.proofs.write_unfolded.Kinds as kinds
 use Rattle.decompose.proofs.+write_unfolded.Lts-write_unfolded as lts
 use Rattle.hangul.proofs.jamo_of.Reads as jamo-of-reads
 use Rattle.hangul.proofs.parts_among.Reads as parts-among-reads
-use Rattle.table.proofs.entry_parts.Reads as entry-parts-reads
+use Rattle.pages.proofs.entry_parts.Reads as entry-parts-reads
 use Rattle.decompose.proofs.decomposes.Reads as decomposes-reads
 use Rattle.utf8.proofs.write_character.Reads as write-character-reads
 use Rattle.decompose.proofs.+write_unfolded.{statement}
 use Rattle.decompose.proofs.+write_unfolded.Tie.{close}
 
 -- the recursion's measure: twice the levels left, and one where there are no parts
-abbrev μ-write-unfolded : Measures 4 kinds.ps ℕ
+abbrev μ-write-unfolded : Measures 6 kinds.ps ℕ
 μ-write-unfolded κs a = 2 * a .0 + (1 - length (a .1 .1 .0 .now))
 
 -- what the function is given at the measure t, and what a call of itself asks below t
-abbrev at : ℕ → In 4 kinds.ps
-at t = and 4 kinds.ps (is 4 kinds.ps μ-write-unfolded t) reads.Pre
+abbrev at : ℕ → In 6 kinds.ps
+at t = and 6 kinds.ps (is 6 kinds.ps μ-write-unfolded t) reads.Pre
 
-abbrev below : ℕ → In 4 kinds.ps
-below t = and 4 kinds.ps (falls 4 kinds.ps _<_ μ-write-unfolded t) reads.Pre
+abbrev below : ℕ → In 6 kinds.ps
+below t = and 6 kinds.ps (falls 6 kinds.ps _<_ μ-write-unfolded t) reads.Pre
 
 abbrev claims : ℕ → lts.Claims
 claims t = (
@@ -70,14 +70,14 @@ claims t = (
 )
 
 abbrev Inv-loop : lts.InvT-loop
-Inv-loop levels-left parts entries pool out₀ at₀ asks₀ i₀ out at asks i =
+Inv-loop levels-left parts entries pool presence ranks out₀ at₀ asks₀ i₀ out at asks i =
     Writing (mappingOf (table entries pool)) (levels-left - 1) parts out₀ at asks i out
 
 abbrev μ-loop : lts.MeasureT-loop
-μ-loop levels-left parts entries pool out₀ at₀ asks₀ i₀ out at asks i = length parts - i
+μ-loop levels-left parts entries pool presence ranks out₀ at₀ asks₀ i₀ out at asks i = length parts - i
 
 -- a need, or a place of the code, at the measure t
-abbrev Of : ℕ → (lts.Claims → In 4 kinds.ps → Out 4 kinds.ps kinds.r → lts.InvT-loop → lts.MeasureT-loop → Type 0) → Type 0
+abbrev Of : ℕ → (lts.Claims → In 6 kinds.ps → Out 6 kinds.ps kinds.r → lts.InvT-loop → lts.MeasureT-loop → Type 0) → Type 0
 Of t F = F (claims t) (at t) reads.Post Inv-loop μ-loop
 
 -- at the function's entry: the table, and its mapping
@@ -91,12 +91,12 @@ bounded : (t : ℕ) (s : Of t lts.Start) → Bounded (mapping t s) (s .args .lev
 bounded t s = s .pre .1 .1 .1 .1 .0
 
 -- where there are no parts, the code point is a syllable
-ruled : (t : ℕ) (c : Of t lts.Then1) → syllable (c .before .before .before .before .before .args .c .0) ≡ true
-ruled t c = c .before .before .before .before .before .pre .1 .1 .0 .by-rule (c .if1 .taken)
+ruled : (t : ℕ) (c : Of t lts.Then1) → syllable (c .before .before .before .before .before .before .before .args .c .0) ≡ true
+ruled t c = c .before .before .before .before .before .before .before .pre .1 .1 .0 .by-rule (c .if1 .taken)
 
 -- at the loop's head: the function's entry, that there are parts, which are its parts, and that a level is left
 abbrev entry : (t : ℕ) → Of t lts.At-loop → Of t lts.Start
-entry t l = l .before .before .before .before .before .before
+entry t l = l .before .before .before .before .before .before .before .before
 
 split : (t : ℕ) (l : Of t lts.At-loop) → let s = entry t l in Split (mapping t s) (s .args .c .0) (s .args .parts .now)
 split t l = listed-split (entry t l .pre .1 .1 .0) (l .before .if1 .left)
@@ -131,7 +131,7 @@ part t c = getD (entry t (head t c) .args .parts .now) (head t c .loop .i) 0
 part-scalar : (t : ℕ) (c : Of t lts.After-decomposes) → scalar (part t c) ≡ true
 part-scalar t c =
     let s = entry t (head t c) in
-    let scalars = formed-parts-scalar (lent t s) (s .pre .1 .0) (s .args .c .0) in
+    let scalars = formed-parts-scalar (lent t s) (s .pre .1 .0 .form) (s .args .c .0) in
     all-at scalar (s .args .parts .now) (head t c .loop .i) 0 (rw (split t (head t c) .parts) scalars) (taken t c)
 
 -- and there is room for it
@@ -200,7 +200,7 @@ write-unfolded-requires : (t : ℕ) → Of t lts.Need-write-unfolded-requires
 write-unfolded-requires t c κs =
     let found = c .before in
     let none = found .before .before .before in
-    let s = none .before .before .before .before .before in
+    let s = none .before .before .before .before .before .before .before in
     let x = s .args .c .0 in
     let listed = listed-jamo (lent t s) x _ (ruled t none) (found .parts-among .ensures) in
     let some = syllable-split (lent t s) x (ruled t none) (found .parts-among .ensures) .some in
@@ -217,14 +217,19 @@ loop-holds : (t : ℕ) → Of t lts.Need-loop-holds
 loop-holds t c = writing-start
 
 -- an index fits
-mul-t23 : (t : ℕ) → Of t lts.Need-mul-t23
-mul-t23 t c = omega (arith, c .loop-test .taken)
+mul-t25 : (t : ℕ) → Of t lts.Need-mul-t25
+mul-t25 t c = omega (arith, c .loop-test .taken)
 
-shared-slice-read-t26 : (t : ℕ) → Of t lts.Need-shared-slice-read-t26
-shared-slice-read-t26 t c = c .before .loop-test .taken
+shared-slice-read-t28 : (t : ℕ) → Of t lts.Need-shared-slice-read-t28
+shared-slice-read-t28 t c = c .before .loop-test .taken
 
 entry-parts-requires : (t : ℕ) → Of t lts.Need-entry-parts-requires
-entry-parts-requires t c κs = entry t (c .before .before) .pre .1 .0
+entry-parts-requires t c κs =
+    let l = c .before .before in
+    let s = entry t l in
+    let scalars = formed-parts-scalar (lent t s) (s .pre .1 .0 .form) (s .args .c .0) in
+    let one = all-at scalar (s .args .parts .now) (l .loop .i) 0 (rw (split t l .parts) scalars) (c .before .loop-test .taken) in
+    (s .pre .1 .0, one)
 
 decomposes-requires : (t : ℕ) → Of t lts.Need-decomposes-requires
 decomposes-requires t c κs = search needs
@@ -276,7 +281,7 @@ write-unfolded-requires-2 t c κs =
     let l = head t p in
     let s = entry t l in
     let splits = sym (p .decomposes .ensures) ∙ not-false _ (c .before .if2 .left) in
-    let listed = listed-some (lent t s) (part t p) _ (s .pre .1 .0) (p .before .entry-parts .ensures) splits in
+    let listed = listed-some (lent t s) (part t p) _ (s .pre .1 .0 .form) (p .before .entry-parts .ensures) splits in
     let bounds = bounded-part (bounded t s) (split t l) (l .loop .i) (taken t p) in (
       omega (arith, level t l, s .pre .0, split t l .some),
       (s .pre .1 .0, (listed, (part-scalar t p, (bounds, part-room t p)))),
@@ -335,8 +340,8 @@ pub +write-unfolded-spec : {M : Type 1} → statement M
     (same-length t)
     (returns t)
     (loop-holds t)
-    (mul-t23 t)
-    (shared-slice-read-t26 t)
+    (mul-t25 t)
+    (shared-slice-read-t28 t)
     (entry-parts-requires t)
     (decomposes-requires t)
     (sub-write-character t)

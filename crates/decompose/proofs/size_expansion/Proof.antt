@@ -8,7 +8,8 @@ use borrow.Author.Needs.{needs}
 use borrow.Author.Tests.{not-true, not-false}
 use Rattle.terms.specs.Refusals.{levelsMost}
 use Rattle.table.specs.Table.{Table, table, formRefusal, entryParts, mappingOf}
-use Rattle.table.proofs.Form.{formed-ascending}
+use Rattle.pages.specs.Pages.{pages}
+use Rattle.pages.specs.Promises.{Findable}
 use Rattle.decompose.specs.Promises.{Bounded}
 use Rattle.decompose.proofs.Walk.{listed-none, listed-some, bounded-unfolds, bounded-asks}
 use Rattle.decompose.proofs.Expansion.{counted-title, counted-plain}
@@ -16,36 +17,38 @@ use Rattle.decompose.proofs.Demand3.{accepted-form, accepted-all}
 use Rattle.decompose.proofs.size_expansion.Statement.{statement}
 use Rattle.decompose.proofs.size_expansion.Tie as tie
 
--- at the function's entry: the table, and its form
+-- at the function's entry: the table, its form, and that entries can be found
 abbrev lent : tie.Start → Table
 lent s = table (s .args .entries .now) (s .args .pool .now)
 
 form : (s : tie.Start) → formRefusal (lent s) ≡ none
-form s = accepted-form (lent s) (s .pre)
+form s = accepted-form (lent s) (s .pre .0 .accepted)
+
+findable : (s : tie.Start) → Findable (lent s) (pages (s .args .presence .now) (s .args .ranks .now))
+findable s = record { form = form s; paged = s .pre .0 .paged }
 
 -- where the titlecase was found: the function's entry, and that it unfolds
 abbrev start : tie.After-title-of → tie.Start
-start c = c .before .before .before .before
+start c = c .before .before .before .before .before .before
 
 bounded : (c : tie.After-title-of) → Bounded (mappingOf (lent (start c))) levelsMost (c .title-of .result .0)
 bounded c =
     let s = start c in
-    bounded-unfolds (mappingOf (lent s)) (c .title-of .result .0) (accepted-all (lent s) (s .pre) (c .title-of .result .0))
+    bounded-unfolds (mappingOf (lent s)) (c .title-of .result .0) (accepted-all (lent s) (s .pre .0 .accepted) (c .title-of .result .0))
 
 -- and where its parts were looked for: what the entries say
 parts : (c : tie.After-title-parts) → let read = c .before in
     c .title-parts .result .now ≡ entryParts (lent (start read)) (read .title-of .result .0)
 parts c = c .title-parts .ensures ∙ ap (entryParts (lent (start (c .before)))) (sym (c .before .title-of .ensures))
 
--- the code points ascend
 find-entry-requires : tie.Need-find-entry-requires
-find-entry-requires c κs = let s = c .before .before in formed-ascending (lent s) (form s)
+find-entry-requires c κs = let s = c .before .before .before .before in (findable s, s .pre .1)
 
 title-of-requires : tie.Need-title-of-requires
 title-of-requires c κs = c .find-entry .ensures
 
 title-parts-requires : tie.Need-title-parts-requires
-title-parts-requires c κs = (form (start c), c .before .find-entry .ensures)
+title-parts-requires c κs = (findable (start c), c .before .find-entry .ensures)
 
 decomposes-requires : tie.Need-decomposes-requires
 decomposes-requires c κs = search needs
@@ -72,11 +75,11 @@ size-unfolded-requires c κs =
     let parted = looked .before in
     let s = start (parted .before) in
     let decomposes = sym (looked .decomposes .ensures) ∙ not-false _ (c .if1 .left) in
-    (form s, (listed-some (lent s) _ _ (form s) (parts parted) decomposes, bounded (parted .before)))
+    (findable s, (listed-some (lent s) _ _ (form s) (parts parted) decomposes, bounded (parted .before)))
 
 -- for few asks
-add-t11 : tie.Need-add-t11
-add-t11 c =
+add-t13 : tie.Need-add-t13
+add-t13 c =
     let called = c .before in
     let read = called .before .before .before .before in
     omega (arith, called .size-unfolded .ensures .asked, bounded-asks (bounded read))
@@ -99,5 +102,5 @@ size-expansion-spec =
     octet-count-requires
     returns
     size-unfolded-requires
-    add-t11
+    add-t13
     returns-2)

@@ -5,7 +5,8 @@ use mathlib.Core.Option.{none, some}
 use borrow.Author.Needs.{needs}
 use Rattle.table.specs.Table.{Table, table, entryOf, titleOf, entryParts}
 use Rattle.table.specs.Promises.{placeFound}
-use Rattle.table.proofs.Form.{entryOf-some, titleOf-none, titleOf-some, entryParts-none, entryParts-some}
+use Rattle.terms.specs.CodePoints.{scalar}
+use Rattle.table.proofs.Form.{formed-title, entryOf-some, titleOf-none, titleOf-some, entryParts-none, entryParts-some}
 use Rattle.decompose.proofs.title_parts.Statement.{statement}
 use Rattle.decompose.proofs.title_parts.Tie as tie
 
@@ -15,7 +16,7 @@ lent s = table (s .args .entries .now) (s .args .pool .now)
 
 -- where there is an entry: which it is; and where its titlecase was read, that it is the code point's
 abbrev start : tie.After-place → tie.Start
-start c = c .before .before .before .before
+start c = c .before .before .before .before .before .before
 
 found : (c : tie.After-place) → entryOf (start c .args .entries .now) (start c .args .c .0) ≡ some (c .place .given .0 .0)
 found c = sym (start c .pre .1) ∙ ap placeFound (c .place .given .1)
@@ -37,7 +38,7 @@ slice-aggregate-result c = search needs
 returns : tie.Need-returns
 returns c =
     let told = c .before in
-    let s = told .before .before .before .before in
+    let s = told .before .before .before .before .before .before in
     let x = s .args .c .0 in
     let e : entryOf (s .args .entries .now) x ≡ none = sym (s .pre .1) ∙ ap placeFound (told .enum-told .given .1) in
     sym (ap (entryParts (lent s)) (titleOf-none (s .args .entries .now) x e) ∙ entryParts-none (lent s) x e)
@@ -48,7 +49,7 @@ title-at-requires c κs = entryOf-some _ _ _ (found (c .before)) .0
 parts-at-requires : tie.Need-parts-at-requires
 parts-at-requires c κs =
     let at = c .before .before .before .before .before in
-    (start at .pre .0, entryOf-some _ _ _ (found at) .0)
+    (start at .pre .0 .form, entryOf-some _ _ _ (found at) .0)
 
 -- the titlecase is the code point, whose entry was found
 returns-2 : tie.Need-returns-2
@@ -62,7 +63,12 @@ returns-2 c =
     ∙ ap (entryParts (lent s)) (sym (same .if1 .taken) ∙ title read)
 
 entry-parts-requires : tie.Need-entry-parts-requires
-entry-parts-requires c κs = start (c .before .before .before .before .before) .pre .0
+entry-parts-requires c κs =
+    let read = c .before .before .before in
+    let at = read .before .before in
+    let s = start at in
+    let titled = formed-title (lent s) (s .pre .0 .form) _ (entryOf-some _ _ _ (found at) .0) in
+    (s .pre .0, ap scalar (read .title-at .ensures) ∙ titled)
 
 -- it is another
 returns-3 : tie.Need-returns-3

@@ -11,7 +11,9 @@ use borrow.Author.Tests.{not-true, not-false}
 use Rattle.terms.specs.CodePoints.{scalar}
 use Rattle.terms.specs.Refusals.{levelsMost}
 use Rattle.table.specs.Table.{Table, table, formRefusal, titleOf, entryParts, partsOf, mappingOf}
-use Rattle.table.proofs.Form.{formed-ascending, formed-title-scalar}
+use Rattle.table.proofs.Form.{formed-title-scalar}
+use Rattle.pages.specs.Pages.{pages}
+use Rattle.pages.specs.Promises.{Findable}
 use Rattle.terms.proofs.Scalars.{scalar-most}
 use Rattle.decompose.specs.Promises.{Bounded}
 use Rattle.decompose.proofs.Walk.{listed-none, listed-some, bounded-unfolds, bounded-asks}
@@ -20,16 +22,19 @@ use Rattle.decompose.proofs.Demand3.{accepted-form, accepted-all}
 use Rattle.decompose.proofs.write_expansion.Statement.{statement}
 use Rattle.decompose.proofs.write_expansion.Tie as tie
 
--- at the function's entry: the table, and its form
+-- at the function's entry: the table, its form, and that entries can be found
 abbrev lent : tie.Start → Table
 lent s = table (s .args .entries .now) (s .args .pool .now)
 
 form : (s : tie.Start) → formRefusal (lent s) ≡ none
-form s = accepted-form (lent s) (s .pre .0)
+form s = accepted-form (lent s) (s .pre .0 .accepted)
+
+findable : (s : tie.Start) → Findable (lent s) (pages (s .args .presence .now) (s .args .ranks .now))
+findable s = record { form = form s; paged = s .pre .0 .paged }
 
 -- where the titlecase was found: the function's entry; the titlecase is scalar, and unfolds
 abbrev start : tie.After-title-of → tie.Start
-start c = c .before .before .before .before .before
+start c = c .before .before .before .before .before .before .before
 
 title : (c : tie.After-title-of) → let s = start c in titleOf (lent s .entries) (s .args .c .0) ≡ c .title-of .result .0
 title c = sym (c .title-of .ensures)
@@ -42,7 +47,7 @@ scalar-title c =
 bounded : (c : tie.After-title-of) → Bounded (mappingOf (lent (start c))) levelsMost (c .title-of .result .0)
 bounded c =
     let s = start c in
-    bounded-unfolds (mappingOf (lent s)) (c .title-of .result .0) (accepted-all (lent s) (s .pre .0) (c .title-of .result .0))
+    bounded-unfolds (mappingOf (lent s)) (c .title-of .result .0) (accepted-all (lent s) (s .pre .0 .accepted) (c .title-of .result .0))
 
 -- where its parts were looked for: what the entries say; and where it doesn't decompose
 parts : (c : tie.After-title-parts) → let read = c .before in
@@ -56,15 +61,14 @@ plain c =
     listed-none (lent (start read)) (read .title-of .result .0) _ (parts (looked .before))
     (sym (looked .decomposes .ensures) ∙ not-true _ (c .if1 .taken))
 
--- the code points ascend
 find-entry-requires : tie.Need-find-entry-requires
-find-entry-requires c κs = let s = c .before .before .before in formed-ascending (lent s) (form s)
+find-entry-requires c κs = let s = c .before .before .before .before .before in (findable s, s .pre .1 .0)
 
 title-of-requires : tie.Need-title-of-requires
 title-of-requires c κs = c .find-entry .ensures
 
 title-parts-requires : tie.Need-title-parts-requires
-title-parts-requires c κs = (form (start c), c .before .find-entry .ensures)
+title-parts-requires c κs = (findable (start c), c .before .find-entry .ensures)
 
 decomposes-requires : tie.Need-decomposes-requires
 decomposes-requires c κs = search needs
@@ -100,11 +104,11 @@ write-unfolded-requires c κs =
     let octets = expanded-title (mappingOf (lent s)) (s .args .c .0) _ (title read) in
     let decomposes = sym (other .before .decomposes .ensures) ∙ not-false _ (other .if1 .left) in
     let listed = listed-some (lent s) _ _ (form s) (parts parted) decomposes in
-    (form s, (listed, (scalar-title read, (bounded read, rw octets at (s .pre .1 .1)))))
+    (findable s, (listed, (scalar-title read, (bounded read, rw octets at (s .pre .1 .1)))))
 
 -- for few asks
-add-t16 : tie.Need-add-t16
-add-t16 c =
+add-t18 : tie.Need-add-t18
+add-t18 c =
     let called = c .before .before .before in
     let read = called .before .before .before .before .before in
     omega (arith, called .write-unfolded .ensures .counted .asked, bounded-asks (bounded read))
@@ -132,6 +136,6 @@ write-expansion-spec =
     same-length
     returns
     write-unfolded-requires
-    add-t16
+    add-t18
     same-length-2
     returns-2)

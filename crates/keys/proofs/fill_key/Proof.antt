@@ -8,13 +8,13 @@ use borrow.Author.Needs.{needs}
 use Rattle.table.specs.Table.{table, mappingOf}
 use Rattle.utf8.specs.Utf8.{characters}
 use Rattle.keys.specs.Keys.{upper}
-use Rattle.keys.proofs.Collations.{tableUnder-unicode, prepared-unicode, filled-kept}
+use Rattle.keys.proofs.Collations.{usable-unicode, prepared-unicode, filled-kept}
 use Rattle.keys.proofs.fill_key.Statement.{statement}
 use Rattle.keys.proofs.fill_key.Tie as tie
 
 -- under collation 3: the function's entry
 abbrev start : tie.After-enum-told3 → tie.Start
-start c = c .before .before .before .before .before .before
+start c = c .before .before .before .before .before .before .before .before
 
 enum-told : tie.Need-enum-told
 enum-told c = search needs
@@ -29,7 +29,7 @@ enum-told-2 c = search needs
 write-ascii-requires : tie.Need-write-ascii-requires
 write-ascii-requires c κs =
     let told = c .before in
-    let s = told .before .before .before .before .before .before in
+    let s = told .before .before .before .before .before .before .before .before in
     let room = rw (told .enum-told2 .given .1) at (s .pre .1 .1) in
     omega (arith, room, length-map (s .args .text .now) upper)
 
@@ -53,7 +53,7 @@ write-unicode-requires c κs =
     let is = prepared-unicode _ e (mappingOf t) (s .args .text .now) in (
       s .pre .0,
       (
-        tableUnder-unicode _ e t (s .pre .1 .0),
+        usable-unicode _ e (s .pre .1 .0),
         (sym (valid .before .is-valid .ensures) ∙ valid .if1 .taken, rw is at (s .pre .1 .1)),
       ),
     )
@@ -83,7 +83,7 @@ returns-3 c =
     let told = called .before .before in
     rw (told .enum-told2 .given .1)
     (record {
-      numbers = rw (length-map (told .before .before .before .before .before .before .args .text .now) upper)
+      numbers = rw (length-map (told .before .before .before .before .before .before .before .before .args .text .now) upper)
           (c .plain2 .ensures);
       left = called .write-ascii .ensures;
     })

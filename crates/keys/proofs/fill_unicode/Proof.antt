@@ -17,8 +17,8 @@ is-valid-requires c κs = search needs
 write-unicode-requires : tie.Need-write-unicode-requires
 write-unicode-requires c κs =
     let valid = c .before in
-    let s = valid .before .before .before .before .before .before in
-    let most = key-most (table (s .args .entries .now) (s .args .pool .now)) (s .args .text .now) (s .pre .1 .0) in (
+    let s = valid .before .before .before .before .before .before .before .before in
+    let most = key-most (table (s .args .entries .now) (s .args .pool .now)) (s .args .text .now) (s .pre .1 .0 .accepted) in (
       s .pre .0,
       (s .pre .1 .0, (sym (valid .before .is-valid .ensures) ∙ valid .if1 .taken, omega (arith, most, s .pre .1 .1))),
     )
@@ -36,7 +36,7 @@ kept-requires c κs = search needs
 returns-2 : tie.Need-returns-2
 returns-2 c =
     let invalid = c .before in
-    let s = invalid .before .before .before .before .before .before in
+    let s = invalid .before .before .before .before .before .before .before .before in
     filled-kept (mappingOf (table (s .args .entries .now) (s .args .pool .now))) (s .args .text .now) (s .args .key .now)
     (characters (s .args .text .now)) (c .kept .result)
     (sym (invalid .before .is-valid .ensures) ∙ invalid .if1 .left) (c .kept .ensures)

@@ -6,7 +6,7 @@ use lib.ListN.{length-map}
 use Rattle.table.specs.Table.{table, mappingOf}
 use Rattle.utf8.specs.Utf8.{characters}
 use Rattle.keys.specs.Keys.{upper}
-use Rattle.keys.proofs.Collations.{filled-kept}
+use Rattle.keys.proofs.Collations.{usable-unicode, filled-kept}
 use borrow.Author.Needs.{needs}
 use Rattle.keys.proofs.size_key.Statement.{statement}
 use Rattle.keys.proofs.size_key.Tie as tie
@@ -32,8 +32,8 @@ is-valid-requires c κs = search needs
 size-unicode-requires : tie.Need-size-unicode-requires
 size-unicode-requires c κs =
     let told = c .before .before in
-    let s = told .before .before .before .before .before in
-    (s .pre .0, (rw (told .enum-told3 .given .1) at (s .pre .1), sym (c .before .is-valid .ensures) ∙ c .if1 .taken))
+    let s = told .before .before .before .before .before .before .before in
+    (s .pre .0, (usable-unicode _ (told .enum-told3 .given .1) (s .pre .1), sym (c .before .is-valid .ensures) ∙ c .if1 .taken))
 
 returns : tie.Need-returns
 returns c = rw (c .before .before .before .enum-told3 .given .1) (c .size-unicode .ensures)
@@ -47,14 +47,14 @@ returns-2 c = rw (c .before .enum-told .given .1) (c .plain .ensures)
 returns-3 : tie.Need-returns-3
 returns-3 c =
     let told = c .before in
-    rw (told .enum-told2 .given .1, length-map (told .before .before .before .before .before .args .text .now) upper)
+    rw (told .enum-told2 .given .1, length-map (told .before .before .before .before .before .before .before .args .text .now) upper)
     (c .plain2 .ensures)
 
 returns-4 : tie.Need-returns-4
 returns-4 c =
     let asked = c .before .before in
     let told = asked .before in
-    let args = told .before .before .before .before .before .args in
+    let args = told .before .before .before .before .before .before .before .args in
     rw (told .enum-told3 .given .1)
     (filled-kept (mappingOf (table (args .entries .now) (args .pool .now))) (args .text .now) []
     (characters (args .text .now)) (c .kept .result)

@@ -8,14 +8,14 @@ use Rattle.terms.specs.Lists.{there}
 use Rattle.utf8.specs.Utf8.{characters}
 use Rattle.keys.specs.Keys.{upper}
 use Rattle.table.specs.Table.{table, mappingOf}
-use Rattle.keys.proofs.Collations.{tableUnder-unicode, prepared-unicode, summary-valid, keyed-invalid}
+use Rattle.keys.proofs.Collations.{usable-unicode, prepared-unicode, summary-valid, keyed-invalid}
 use borrow.Author.Needs.{needs}
 use Rattle.keys.proofs.write_key.Statement.{statement}
 use Rattle.keys.proofs.write_key.Tie as tie
 
 -- under collation 3: the function's entry, and what the summary says
 abbrev start : tie.After-enum-told3 → tie.Start
-start c = c .before .before .before .before .before .before
+start c = c .before .before .before .before .before .before .before .before
 
 valid : (c : tie.After-enum-told3) → start c .args .summary .valid ≡ there (characters (start c .args .text .now))
 valid c =
@@ -33,7 +33,7 @@ enum-told-2 c = search needs
 write-ascii-requires : tie.Need-write-ascii-requires
 write-ascii-requires c κs =
     let told = c .before in
-    let s = told .before .before .before .before .before .before in
+    let s = told .before .before .before .before .before .before .before .before in
     let room = rw (told .enum-told2 .given .1) at (s .pre .1 .1 .1) in
     omega (arith, room, length-map (s .args .text .now) upper)
 
@@ -48,7 +48,7 @@ write-unicode-requires c κs =
     let is = prepared-unicode _ e (mappingOf (table (s .args .entries .now) (s .args .pool .now))) (s .args .text .now) in (
       s .pre .0,
       (
-        tableUnder-unicode _ e (table (s .args .entries .now) (s .args .pool .now)) (s .pre .1 .0),
+        usable-unicode _ e (s .pre .1 .0),
         (sym (valid (test .before)) ∙ test .if1 .taken, rw is at (s .pre .1 .1 .1)),
       ),
     )

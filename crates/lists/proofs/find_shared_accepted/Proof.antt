@@ -5,12 +5,11 @@ use mathlib.Core.Option.{none, some}
 use borrow.Author.Needs.{needs}
 use Rattle.terms.specs.Collations.{collationOf}
 use Rattle.terms.specs.Refusals.{first}
-use Rattle.prepare.specs.Calls.{tableCheck}
-use Rattle.table.specs.Table.{table}
 use Rattle.lists.specs.Lists.{ListsCall, listsCall, namesChecks}
 use Rattle.lists.specs.Promises.{Counted, listsCheckRefusal}
 use Rattle.lists.specs.declared.names.NameCount.{NameCount}
 use Rattle.terms.specs.declared.Collation.{Collation}
+use Rattle.prepare.proofs.Paging.{usable-lookup}
 use Rattle.lists.proofs.Sharing.{first-listed, second-listed, refused-names, refused-rooms, shares-refused, shares-same}
 use Rattle.lists.proofs.find_shared_accepted.Statement.{statement}
 use Rattle.lists.proofs.find_shared_accepted.Tie as tie
@@ -19,13 +18,12 @@ use Rattle.lists.proofs.find_shared_accepted.Tie as tie
 abbrev call : tie.Start → ListsCall
 call s =
     let a = s .args in
-    listsCall (collationOf (a .collation)) (a .first .now) (a .second .now) (a .entries .now) (a .pool .now) (a .store .now)
-    (a .partners .now)
-    (a .positions .now)
+    listsCall (collationOf (a .collation)) (a .first .now) (a .second .now) (a .entries .now) (a .pool .now)
+    (a .presence .now) (a .ranks .now) (a .store .now) (a .partners .now) (a .positions .now)
 
 -- where the lists were checked: the function's entry
 abbrev start : tie.After-check-lists → tie.Start
-start c = c .before .before .before .before .before .before .before .before
+start c = c .before .before .before .before .before .before .before .before .before .before
 
 -- they passed: the collation, both lists counted, and that no check applied
 abbrev chosen : tie.After-known-told → Collation
@@ -58,7 +56,7 @@ fill-lists-requires c κs =
     let t = c .before .before .before in
     let s = start (t .before .before .before) in
     let o = collationOf (s .args .collation) in (
-      sym (ap (λ k. tableCheck k (table (s .args .entries .now) (s .args .pool .now))) (known t .0)) ∙ s .pre,
+      s .pre _ (known t .0),
       (
         first-listed o (s .args .first .now) (s .args .second .now) (passed t) (one t) (known t .1),
         second-listed o (s .args .first .now) (s .args .second .now) (passed t) (two t) (known t .2),
@@ -81,7 +79,8 @@ returns : tie.Need-returns
 returns c =
     let t = c .before .before .before .before .before .before .before .before .before .before in
     let s = start (t .before .before .before) in
-    shares-same (refused-rooms (call s) (passed t) (s .pre)) (rw (known t .0) (c .before .before .before .before
+    shares-same (refused-rooms (call s) (passed t)
+    (usable-lookup (call s .collation) (call s .table) (call s .pages) (s .pre))) (rw (known t .0) (c .before .before .before .before
     .before .before .fill-lists .ensures))
 
 returns-2 : tie.Need-returns-2

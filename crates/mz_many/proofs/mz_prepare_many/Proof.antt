@@ -1,4 +1,4 @@
--- `mz_many::mz_prepare_many` meets its contract: the row of what `prepare_many` answers, and the slices that it leaves.
+-- `mz_many::mz_prepare_many` meets its contract: the row of what `prepare_many` answers, the slices that it leaves, and the pages.
 -- Assumes nothing.
 use mathlib.Core.Path.{ap, _∙_}
 use borrow.Author.Needs.{needs}
@@ -21,10 +21,20 @@ same-length-2 c = search needs
 same-length-3 : tie.Need-same-length-3
 same-length-3 c = search needs
 
+same-length-4 : tie.Need-same-length-4
+same-length-4 c = search needs
+
+same-length-5 : tie.Need-same-length-5
+same-length-5 c = search needs
+
 returns : tie.Need-returns
 returns c =
-    let batch = c .before .before .before .before .before .before .before .prepare-many .ensures in
-    record { answered = c .batch-row .ensures ∙ ap (row 1) (batch .answered); left = batch .left }
+    let prepared = c .before .before .before .before .before .before .before .before .before .before .before .prepare-many .ensures in
+    let batch = prepared .prepares in
+    record {
+      row = record { answered = c .batch-row .ensures ∙ ap (row 1) (batch .answered); left = batch .left };
+      paged = prepared .paged;
+    }
 
 pub mz-prepare-many-spec : {M : Type 1} → statement M
 mz-prepare-many-spec =
@@ -35,4 +45,6 @@ mz-prepare-many-spec =
     same-length
     same-length-2
     same-length-3
+    same-length-4
+    same-length-5
     returns)

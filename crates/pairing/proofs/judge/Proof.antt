@@ -14,7 +14,7 @@ use Rattle.pairing.proofs.judge.Tie as tie
 
 -- where the tab was looked for: the function's entry
 abbrev start : tie.After-find-tab → tie.Start
-start c = c .before .before .before .before .before .before .before
+start c = c .before .before .before .before .before .before .before .before .before
 
 -- where it was found: it is the first tab
 tab-at : (c : tie.After-tab) → tabOf (start (c .before .before) .args .line .now) ≡ some (c .tab .given .0 .0)

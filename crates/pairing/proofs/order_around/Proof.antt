@@ -16,7 +16,7 @@ add-next c = search needs
 -- the text before it
 slice-aggregate-order-accepted : tie.Need-slice-aggregate-order-accepted
 slice-aggregate-order-accepted c =
-    let s = c .before .before .before .before .before .before in
+    let s = c .before .before .before .before .before .before .before .before in
     sym (length-take-le (s .args .at) (s .args .line .now) (omega (arith, s .pre .0)))
 
 sub-order-accepted : tie.Need-sub-order-accepted
@@ -41,7 +41,7 @@ same-length-2 c = search needs
 returns : tie.Need-returns
 returns c =
     let called = c .before .before .before .before in
-    let s = called .before .before .before .before .before .before .before .before .before .before in
+    let s = called .before .before .before .before .before .before .before .before .before .before .before .before in
     let line = s .args .line .now in
     let at = s .args .at in
     rw (take-drop (at + 1) line, add-one at) at (called .order-accepted .ensures)

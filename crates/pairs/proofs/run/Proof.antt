@@ -13,8 +13,8 @@ enum-told : tie.Need-enum-told
 enum-told c = search needs
 
 -- the table is accepted
-answer-all-requires : tie.Need-answer-all-requires
-answer-all-requires c κs =
+answer-requires : tie.Need-answer-requires
+answer-requires c κs =
     let p = c .before .before .before in
     let a = p .before .before .before .before .args in
     accepted (table (a .entries .now) (a .pool .now)) (p .check-table .result) (c .before .enum-told .given .1)
@@ -41,7 +41,7 @@ run-spec =
     (tie.spec
     check-table-requires
     enum-told
-    answer-all-requires
+    answer-requires
     enum-known-check
     refuse-table-requires
     same-length

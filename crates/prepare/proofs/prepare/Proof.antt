@@ -1,10 +1,25 @@
--- `prepare::prepare` meets its contract: `check_call` answers the front of the call, and `prepare_accepted` the call that
--- passed it.
+-- `prepare::prepare` meets its contract: `check_call` answers the front of the call and fills the pages, and `prepare_accepted`
+-- answers the call that passed it.
 -- Assumes nothing.
+use mathlib.Core.List.{List, [], _∷_}
 use borrow.Author.Needs.{needs}
-use Rattle.prepare.proofs.CallRefusals.{checks-passed, checks-refused, prepares-refused}
+use Rattle.terms.specs.Collations.{collationOf}
+use Rattle.table.specs.Table.{Table, table}
+use Rattle.pages.specs.Pages.{Pages, pages}
+use Rattle.prepare.specs.Calls.{Lent, lent}
+use Rattle.prepare.proofs.CallRefusals.{checks-passed, checks-refused, prepares-refused, passed-usable, prepares-passed}
 use Rattle.prepare.proofs.prepare.Statement.{statement}
 use Rattle.prepare.proofs.prepare.Tie as tie
+
+-- at the function's entry: the table, the pages, and the text with its buffer
+abbrev table-at : tie.Start → Table
+table-at s = table (s .args .entries .now) (s .args .pool .now)
+
+abbrev pages-at : tie.Start → Pages
+pages-at s = pages (s .args .presence .now) (s .args .ranks .now)
+
+abbrev lents : tie.Start → List Lent
+lents s = lent (s .args .text .now) (s .args .key .now) ∷ []
 
 check-call-requires : tie.Need-check-call-requires
 check-call-requires c κs = search needs
@@ -12,10 +27,14 @@ check-call-requires c κs = search needs
 enum-told : tie.Need-enum-told
 enum-told c = search needs
 
--- the table was accepted
+-- the table was accepted, and the pages were filled
 prepare-accepted-requires : tie.Need-prepare-accepted-requires
 prepare-accepted-requires c κs =
-    let told = c .before in checks-passed (told .before .before .check-call .ensures) (told .enum-told .given .1) .table
+    let told = c .before .before .before in
+    let checked = told .before .before .before .before .before .before .check-call .ensures in
+    let s = told .before .before .before .before .before .before .before .before .before .before .before .before .before .before .before in
+    passed-usable (collationOf (s .args .collation)) (table-at s) (pages-at s) (lents s) _ (checked .paged)
+    (checks-passed (checked .checks) (told .enum-told .given .1) .refusal)
 
 enum-known-checked : tie.Need-enum-known-checked
 enum-known-checked c = search needs
@@ -23,14 +42,35 @@ enum-known-checked c = search needs
 same-length : tie.Need-same-length
 same-length c = search needs
 
+same-length-2 : tie.Need-same-length-2
+same-length-2 c = search needs
+
+same-length-3 : tie.Need-same-length-3
+same-length-3 c = search needs
+
 returns : tie.Need-returns
-returns c = search needs
+returns c =
+    let told = c .before .before .before .before .before .before in
+    let checked = told .before .before .before .before .before .before .check-call .ensures in
+    let s = told .before .before .before .before .before .before .before .before .before .before .before .before .before .before .before in
+    prepares-passed (collationOf (s .args .collation)) (table-at s) (pages-at s) (lents s) _ (checked .paged)
+    (checks-passed (checked .checks) (told .enum-told .given .1) .refusal)
+    (c .before .before .prepare-accepted .ensures)
+
+same-length-4 : tie.Need-same-length-4
+same-length-4 c = search needs
+
+same-length-5 : tie.Need-same-length-5
+same-length-5 c = search needs
 
 -- refused by the front
 returns-2 : tie.Need-returns-2
 returns-2 c =
-    let known = c .before in
-    prepares-refused (checks-refused (known .before .before .check-call .ensures) (known .checked .given .1))
+    let checked = c .before .before .before .before .before .before .before .check-call .ensures in
+    record {
+      prepares = prepares-refused (checks-refused (checked .checks) (c .before .checked .given .1));
+      paged = checked .paged;
+    }
 
 pub prepare-spec : {M : Type 1} → statement M
 prepare-spec =
@@ -41,5 +81,9 @@ prepare-spec =
     prepare-accepted-requires
     enum-known-checked
     same-length
+    same-length-2
+    same-length-3
     returns
+    same-length-4
+    same-length-5
     returns-2)

@@ -5,17 +5,18 @@ use lib.ListN.{length}
 use borrow.Author.Needs.{needs}
 use Rattle.terms.specs.Collations.{collationOf}
 use Rattle.table.specs.Table.{table}
+use Rattle.pages.specs.Pages.{pages}
 use Rattle.prepare.specs.Promises.{ChecksCall}
-use Rattle.prepare.proofs.CallRefusals.{checks-texts, ready-table, checks-passed, checks-refused, prepares-ready}
+use Rattle.prepare.proofs.CallRefusals.{checks-texts, checks-passed, checks-refused, prepares-ready}
 use Rattle.prepare.proofs.CallRefusals.{prepares-refused}
 use Rattle.prepare.proofs.prepare_accepted.Statement.{statement}
 use Rattle.prepare.proofs.prepare_accepted.Tie as tie
 
 -- the front was checked
-checked : (c : tie.After-check-texts) → let args = c .before .before .before .before .before .args in
+checked : (c : tie.After-check-texts) → let args = c .before .before .before .before .before .before .before .args in
     ChecksCall (collationOf (args .collation)) (length (args .text .now)) 0 (table (args .entries .now) (args .pool .now))
-    (c .check-texts .result)
-checked c = checks-texts (c .before .before .before .before .before .pre) (c .check-texts .ensures)
+    (pages (args .presence .now) (args .ranks .now)) (c .check-texts .result)
+checked c = checks-texts (c .before .before .before .before .before .before .before .pre) (c .check-texts .ensures)
 
 check-texts-requires : tie.Need-check-texts-requires
 check-texts-requires c κs = search needs
@@ -27,8 +28,9 @@ enum-known-texts c = search needs
 fill-one-requires : tie.Need-fill-one-requires
 fill-one-requires c κs =
     let told = c .before .before in
+    let start = told .before .before .before .before .before .before .before .before .before in
     let passed = checks-passed (checked (told .before .before)) (told .texts .given .1) in
-    (passed .first, ready-table passed)
+    (passed .first, start .pre _ (passed .known))
 
 enum-known-texts-2 : tie.Need-enum-known-texts-2
 enum-known-texts-2 c = search needs

@@ -7,7 +7,6 @@ use Rattle.terms.specs.Collations.{readsTable}
 use Rattle.terms.specs.Refusals.{gives}
 use Rattle.table.specs.Mapping.{Mapping}
 use Rattle.table.specs.Table.{table, mappingOf}
-use Rattle.keys.proofs.Collations.{tableUnder-reads}
 use Rattle.search.specs.Covering.{Span, span}
 use Rattle.search.specs.Substring.{hitValues}
 use Rattle.search.proofs.Seeking.{hits-within, hits-invalid, textRun-reads, textRun-other}
@@ -16,7 +15,7 @@ use Rattle.search.proofs.hit.Tie as tie
 
 -- where the table is read: the function's entry, and that it is
 abbrev start : tie.Then1 → tie.Start
-start c = c .before .before .before .before .before
+start c = c .before .before .before .before .before .before .before
 
 reads : (c : tie.Then1) → readsTable (start c .args .collation) ≡ true
 reads c = sym (c .before .reads-table .ensures) ∙ c .if1 .taken
@@ -37,7 +36,7 @@ cover-requires : tie.Need-cover-requires
 cover-requires c κs =
     let r = c .before in
     let s = start r in (
-      tableUnder-reads (s .args .collation) (table (s .args .entries .now) (s .args .pool .now)) (reads r) (s .pre .0),
+      s .pre .0 (reads r),
       hits-within _ _ _ _ _ _ (s .pre .1) (reads r) (c .if2 .taken),
     )
 
@@ -60,7 +59,7 @@ returns-2 c =
 -- the table is not read
 returns-3 : tie.Need-returns-3
 returns-3 c =
-    let s = c .before .before .before .before .before in
+    let s = c .before .before .before .before .before .before .before in
     hit-run (span (s .args .start .0) (s .args .end .0))
     (textRun-other (s .args .collation) (mapping s) (s .args .second .now) _
     (sym (c .before .reads-table .ensures) ∙ c .if1 .left))

@@ -16,7 +16,7 @@ use Rattle.search.proofs.seek_key.Tie as tie
 
 -- the function's entry, seen from past the search, and the mapping of the table
 abbrev start : tie.After-find → tie.Start
-start c = c .before .before .before .before .before .before
+start c = c .before .before .before .before .before .before .before .before
 
 abbrev mapping : tie.After-find → Mapping
 mapping c = mappingOf (table (start c .args .entries .now) (start c .args .pool .now))

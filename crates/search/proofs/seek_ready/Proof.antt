@@ -19,7 +19,7 @@ seek-shown-requires : tie.Need-seek-shown-requires
 seek-shown-requires c κs =
     let known = c .before .before .before in
     let called = known .before .before .before .before .before .before in (
-      called .before .before .before .before .before .before .before .before .before .pre .1 .1,
+      called .before .before .before .before .before .before .before .before .before .before .before .pre .1 .1,
       both-shows
           (called .fill-two .ensures) (known .pair .given .1),
     )

@@ -11,10 +11,10 @@ use Rattle.search.proofs.seek_shown.Statement.{statement}
 use Rattle.search.proofs.seek_shown.Tie as tie
 
 -- the function's entry, and the mapping of the table
-abbrev start : tie.After-shared-slice-known6 → tie.Start
-start c = c .before .before .before .before .before .before
+abbrev start : tie.After-shared-slice-known8 → tie.Start
+start c = c .before .before .before .before .before .before .before .before
 
-abbrev mapping : tie.After-shared-slice-known6 → Mapping
+abbrev mapping : tie.After-shared-slice-known8 → Mapping
 mapping c = mappingOf (table (start c .args .entries .now) (start c .args .pool .now))
 
 -- the empty text

@@ -16,7 +16,7 @@ mapping s = mappingOf (table (s .args .entries .now) (s .args .pool .now))
 
 fill-key-requires : tie.Need-fill-key-requires
 fill-key-requires c κs =
-    let s = c .before .before .before .before .before in
+    let s = c .before .before .before .before .before .before .before in
     (s .pre .0, (s .pre .1 .0, room-most (s .args .collation) (mapping s) (s .args .text .now) (s .pre .1 .1)))
 
 enum-told : tie.Need-enum-told
@@ -24,10 +24,10 @@ enum-told c = search needs
 
 put-octets-requires : tie.Need-put-octets-requires
 put-octets-requires c κs =
-    let s = c .before .before .before .before .before .before .before .before .before .before .before in
+    let s = c .before .before .before .before .before .before .before .before .before .before .before .before .before in
     let f = c .before .before .before .before .before in
     let text = filled-text (s .args .collation) (mapping s) (s .args .text .now) (s .args .out .now) (f .fill-key .result)
-    (f .fill-key .last .1 .1 .1 .1 .0)
+    (f .fill-key .last .1 .1 .1 .1 .1 .1 .0)
     (f .fill-key .ensures)
     (c .before .enum-told .given .1)
     in
@@ -41,10 +41,10 @@ same-length c = search needs
 
 returns : tie.Need-returns
 returns c =
-    let s = c .before .before .before .before .before .before .before .before .before .before .before .before .before .before in
+    let s = c .before .before .before .before .before .before .before .before .before .before .before .before .before .before .before .before in
     let f = c .before .before .before .before .before .before .before .before in
     filled-copied (s .args .collation) (mapping s) (s .args .text .now) (s .args .out .now) (f .fill-key .result)
-    (f .fill-key .last .1 .1 .1 .1 .0)
+    (f .fill-key .last .1 .1 .1 .1 .1 .1 .0)
     (f .fill-key .ensures)
     (c .before .before .before .before .enum-told .given .1)
     (c .before .before .put-octets .result)
@@ -56,10 +56,10 @@ same-length-2 c = search needs
 
 returns-2 : tie.Need-returns-2
 returns-2 c =
-    let s = c .before .before .before .before .before .before .before .before .before .before in
+    let s = c .before .before .before .before .before .before .before .before .before .before .before .before in
     let f = c .before .before .before .before in
     filled-buffer (s .args .collation) (mapping s) (s .args .text .now) (s .args .out .now) (f .fill-key .result)
-    (f .fill-key .last .1 .1 .1 .1 .0)
+    (f .fill-key .last .1 .1 .1 .1 .1 .1 .0)
     (f .fill-key .ensures)
     (c .enum-told2 .given .1)
 

@@ -23,7 +23,7 @@ abbrev start : tie.After-i → tie.Start
 start c = c .before .before .before .before .before .before .before
 
 found : (c : tie.After-i) → entryOf (start c .args .entries .now) (start c .args .c .0) ≡ some (c .i .given .0 .0)
-found c = sym (c .before .before .find-around .ensures) ∙ ap placeFound (c .i .given .1)
+found c = sym (c .before .before .find-among .ensures) ∙ ap placeFound (c .i .given .1)
 
 within-reach-requires : tie.Need-within-reach-requires
 within-reach-requires c κs = ascending (c .before .before)
@@ -38,8 +38,8 @@ returns c =
     let s = called .before .before .before in
     sym (entryParts-none (lent s) (s .args .c .0) (candidates-none (rw (c .before .if1 .taken) at (called .within-reach .ensures))))
 
-find-around-requires : tie.Need-find-around-requires
-find-around-requires c κs =
+find-among-requires : tie.Need-find-among-requires
+find-among-requires c κs =
     let called = c .before in
     (ascending (called .before .before .before), (omega arith, called .within-reach .ensures))
 
@@ -67,7 +67,7 @@ returns-3 : tie.Need-returns-3
 returns-3 c =
     let told = c .before in
     let s = told .before .before .before .before .before .before .before in
-    let nowhere = sym (told .before .before .find-around .ensures) ∙ ap placeFound (told .enum-told .given .1) in
+    let nowhere = sym (told .before .before .find-among .ensures) ∙ ap placeFound (told .enum-told .given .1) in
     sym (entryParts-none (lent s) (s .args .c .0) nowhere)
 
 pub entry-parts-spec : {M : Type 1} → statement M
@@ -77,7 +77,7 @@ entry-parts-spec =
     within-reach-requires
     slice-aggregate-result
     returns
-    find-around-requires
+    find-among-requires
     enum-known-i
     parts-at-requires
     returns-2

@@ -3,6 +3,7 @@
 use super::{new_row, row, LentTable, NUMBER_GUARD, OCTET_GUARD, SIZE_GUARD};
 use crate::abi::{mz_match_keys, mz_prepare_many};
 use crate::lent::{Lent, Side, SIDES};
+use crate::page_slices::PageSlices;
 use second::many::{Many, Matched, Prepared};
 
 /// The longest slice of which copies are made.
@@ -67,7 +68,14 @@ fn copy_back<T: Copy + PartialEq>(lent: &Lent<T>, slice: &mut [T]) -> Result<(),
 }
 
 /// Prepares many texts; the three slices are filled from `prepared` before and copied back after.
-pub fn prepare_many(collation: u32, texts: Many, table: &LentTable, prepared: Prepared) -> Result<[u64; 4], String> {
+pub fn prepare_many(
+    collation: u32,
+    texts: Many,
+    table: &LentTable,
+    pages: &mut PageSlices,
+    prepared: Prepared,
+) -> Result<[u64; 4], String> {
+    let lengths = pages.lengths();
     let lent = LentMany::new(texts);
     let mut store = Lent::new(prepared.store, OCTET_GUARD);
     let mut key_ends = Lent::new(prepared.key_ends, SIZE_GUARD);
@@ -86,6 +94,10 @@ pub fn prepare_many(collation: u32, texts: Many, table: &LentTable, prepared: Pr
                 table.entries.length(),
                 table.pool.pointer(side),
                 table.pool.length(),
+                pages.presence(side),
+                lengths.presence,
+                pages.ranks(side),
+                lengths.ranks,
                 store.pointer_mut(side),
                 store.length(),
                 key_ends.pointer_mut(side),

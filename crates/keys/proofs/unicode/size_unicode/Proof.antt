@@ -23,15 +23,15 @@ use Rattle.keys.proofs.unicode.size_unicode.Statement.{statement}
 use Rattle.keys.proofs.unicode.size_unicode.Tie as tie
 
 abbrev Inv-loop : tie.InvT-loop
-Inv-loop text entries pool at₀ end₀ lookups₀ at end lookups =
+Inv-loop text entries pool presence ranks at₀ end₀ lookups₀ at end lookups =
     Sizing decode (mappingOf (table entries pool)) text (at .0) (end .0) lookups × (there (characters (drop (at .0) text)) ≡ true)
 
 abbrev μ-loop : tie.MeasureT-loop
-μ-loop text entries pool at₀ end₀ lookups₀ at end lookups = length text - at .0
+μ-loop text entries pool presence ranks at₀ end₀ lookups₀ at end lookups = length text - at .0
 
 -- at the loop's head: the function's entry, the mapping of the table, and the text
 abbrev start : tie.At-loop Inv-loop μ-loop → tie.Start Inv-loop μ-loop
-start l = l .before .before .before .before
+start l = l .before .before .before .before .before .before
 
 abbrev mapping : tie.At-loop Inv-loop μ-loop → Mapping
 mapping l = mappingOf (table (start l .args .entries .now) (start l .args .pool .now))
@@ -60,7 +60,7 @@ more : (c : tie.After-size-expansion Inv-loop μ-loop)
 more c =
     let r = c .before in
     let l = head r in
-    let accepted = accepted-all (table (start l .args .entries .now) (start l .args .pool .now)) (start l .pre .1 .0) in
+    let accepted = accepted-all (table (start l .args .entries .now) (start l .args .pool .now)) (start l .pre .1 .0 .accepted) in
     sizing-more utf8-decodes (l .loop .inv .0) accepted (read r) (c .size-expansion .result) (decoded r)
     (c .size-expansion .ensures)
 
@@ -81,7 +81,7 @@ sized-at c = c .before .before .before .before .before
 
 -- before the first character
 loop-holds : tie.Need-loop-holds Inv-loop μ-loop
-loop-holds c = (sizing-start _ _ _, c .before .before .before .pre .1 .1)
+loop-holds c = (sizing-start _ _ _, c .before .before .before .before .before .pre .1 .1)
 
 -- a character follows
 read-valid-requires : tie.Need-read-valid-requires Inv-loop μ-loop
@@ -89,9 +89,11 @@ read-valid-requires c κs =
     let l = c .before .before in
     there-next utf8-decodes (text-of l) (l .loop .at .0) (l .loop .inv .1) (c .if1 .taken)
 
--- the table is accepted
+-- the table is accepted, and a decoded character is scalar
 size-expansion-requires : tie.Need-size-expansion-requires Inv-loop μ-loop
-size-expansion-requires c κs = start (head c) .pre .1 .0
+size-expansion-requires c κs =
+    let l = head c in
+    (start l .pre .1 .0, utf8-decodes .scalars (drop (l .loop .at .0) (text-of l)) (read c) (decoded c))
 
 -- few octets of text, of key, and few lookups
 add-at : tie.Need-add-at Inv-loop μ-loop

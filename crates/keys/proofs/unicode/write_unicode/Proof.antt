@@ -23,16 +23,16 @@ use Rattle.keys.proofs.unicode.write_unicode.Statement.{statement}
 use Rattle.keys.proofs.unicode.write_unicode.Tie as tie
 
 abbrev Inv-loop : tie.InvT-loop
-Inv-loop text entries pool key₀ at₀ end₀ lookups₀ key at end lookups =
+Inv-loop text entries pool presence ranks key₀ at₀ end₀ lookups₀ key at end lookups =
     Sizing decode (mappingOf (table entries pool)) text (at .0) (end .0) lookups
     × Writing decode (mappingOf (table entries pool)) text key₀ (at .0) (end .0) key
 
 abbrev μ-loop : tie.MeasureT-loop
-μ-loop text entries pool key₀ at₀ end₀ lookups₀ key at end lookups = length text - at .0
+μ-loop text entries pool presence ranks key₀ at₀ end₀ lookups₀ key at end lookups = length text - at .0
 
 -- at the loop's head: the function's entry, the mapping of the table, and the text
 abbrev start : tie.At-loop Inv-loop μ-loop → tie.Start Inv-loop μ-loop
-start l = l .before .before .before .before .before
+start l = l .before .before .before .before .before .before .before
 
 abbrev mapping : tie.At-loop Inv-loop μ-loop → Mapping
 mapping l = mappingOf (table (start l .args .entries .now) (start l .args .pool .now))
@@ -73,7 +73,7 @@ abbrev read-at : tie.After-write-expansion Inv-loop μ-loop → tie.After-read-v
 read-at c = c .before .before
 
 abbrev last : tie.After-write-expansion Inv-loop μ-loop → List ℕ
-last c = c .write-expansion .last .1 .1 .1 .0
+last c = c .write-expansion .last .1 .1 .1 .1 .1 .0
 
 more : (c : tie.After-write-expansion Inv-loop μ-loop)
     → let l = head (read-at c) in
@@ -97,7 +97,7 @@ sized : (c : tie.After-write-expansion Inv-loop μ-loop)
 sized c =
     let r = read-at c in
     let l = head r in
-    let accepted = accepted-all (table (start l .args .entries .now) (start l .args .pool .now)) (start l .pre .1 .0) in
+    let accepted = accepted-all (table (start l .args .entries .now) (start l .args .pool .now)) (start l .pre .1 .0 .accepted) in
     sizing-more utf8-decodes (l .loop .inv .0) accepted (read r)
     (c .write-expansion .result) (decoded r) (c .write-expansion .ensures .counted)
 
@@ -120,7 +120,7 @@ written c = c .before .before .before .before .before .before .before
 
 -- before the first character
 loop-holds : tie.Need-loop-holds Inv-loop μ-loop
-loop-holds c = (sizing-start _ _ _, writing-start _ _ _ _ (c .before .before .before .before .pre .1 .1 .0))
+loop-holds c = (sizing-start _ _ _, writing-start _ _ _ _ (c .before .before .before .before .before .before .pre .1 .1 .0))
 
 -- a character follows
 read-valid-requires : tie.Need-read-valid-requires Inv-loop μ-loop
@@ -162,7 +162,7 @@ add-at c =
 add-end : tie.Need-add-end Inv-loop μ-loop
 add-end c =
     let w = c .before .before .before .before .before .before in
-    omega (arith, ends w, start (head (read-at w)) .good .1 .1 .1 .0)
+    omega (arith, ends w, start (head (read-at w)) .good .1 .1 .1 .1 .1 .0)
 
 -- few lookups
 add-lookups : tie.Need-add-lookups Inv-loop μ-loop

@@ -9,6 +9,8 @@ use lib.ListN.{length}
 use borrow.Author.Needs.{needs}
 use Rattle.terms.specs.Refusals.{expansionMost}
 use Rattle.table.specs.Table.{table, mappingOf}
+use Rattle.pages.specs.Pages.{pages}
+use Rattle.keys.proofs.Collations.{usable-accepted}
 use Rattle.keys.specs.Keys.{keyOf}
 use Rattle.keys.proofs.Bounds.{key-within}
 use Rattle.lists.specs.Names.{namesIn}
@@ -27,7 +29,8 @@ key s = keyOf (s .args .collation) (mappingOf (table (s .args .entries .now) (s 
 most : (s : tie.Start) (list : List ℕ) → length (joined (map (key s) (namesIn list))) ≤ expansionMost * nameOctets list
 most s list =
     joined-most (key s) (λ t. key-within (s .args .collation) (table (s .args .entries .now) (s .args .pool .now)) t
-    (s .pre .0))
+    (usable-accepted (s .args .collation) (table (s .args .entries .now) (s .args .pool .now))
+    (pages (s .args .presence .now) (s .args .ranks .now)) (s .pre .0)))
     (namesIn list)
 
 -- all keys together
@@ -41,7 +44,7 @@ needed s = length (joined (map (key s) (namesIn (s .args .first .now)) ++ map (k
 
 returns : tie.Need-returns
 returns c =
-    let s = c .before .before .before .before .before in
+    let s = c .before .before .before .before .before .before .before in
     store-enough {room = s .args .room} {needed = needed s}
     (omega (
       arith,
@@ -60,7 +63,7 @@ size-keys-requires-2 c κs = search needs
 
 add-needed : tie.Need-add-needed
 add-needed c =
-    let s = c .before .before .before .before .before .before .before in
+    let s = c .before .before .before .before .before .before .before .before .before in
     omega (
       arith,
       c .before .size-keys .ensures,
@@ -76,7 +79,7 @@ refused-requires c κs = search needs
 
 returns-2 : tie.Need-returns-2
 returns-2 c =
-    let s = c .before .before .before .before .before .before .before .before .before in
+    let s = c .before .before .before .before .before .before .before .before .before .before .before in
     let one = c .before .before .before .size-keys in
     let two = c .before .before .size-keys2 in
     let all : needed s ≡ one .result + two .result = omega (arith, sum s, one .ensures, two .ensures) in
@@ -84,7 +87,7 @@ returns-2 c =
 
 returns-3 : tie.Need-returns-3
 returns-3 c =
-    let s = c .before .before .before .before .before .before .before .before in
+    let s = c .before .before .before .before .before .before .before .before .before .before in
     store-enough {room = s .args .room} {needed = needed s}
     (omega (arith, sum s, c .before .before .size-keys .ensures, c .before .size-keys2 .ensures, c .if2 .left))
 

@@ -15,17 +15,16 @@ use Rattle.lists.proofs.filling.fill_lists.Tie as tie
 abbrev call : tie.Start → ListsCall
 call s =
     let a = s .args in
-    listsCall (some (a .collation)) (a .first .now) (a .second .now) (a .entries .now) (a .pool .now) (a .store .now)
-    (a .partners .now)
-    (a .positions .now)
+    listsCall (some (a .collation)) (a .first .now) (a .second .now) (a .entries .now) (a .pool .now)
+    (a .presence .now) (a .ranks .now) (a .store .now) (a .partners .now) (a .positions .now)
 
 -- where the store was checked: the function's entry
 abbrev start : tie.After-check-store → tie.Start
-start c = c .before .before .before .before .before .before .before .before .before .before
+start c = c .before .before .before .before .before .before .before .before .before .before .before .before
 
 add-octets : tie.Need-add-octets
 add-octets c =
-    let s = c .before .before .before .before .before .before .before .before .before in
+    let s = c .before .before .before .before .before .before .before .before .before .before .before in
     omega (
       arith,
       s .pre .1 .0 .octets,
@@ -36,7 +35,7 @@ add-octets c =
 
 check-store-requires : tie.Need-check-store-requires
 check-store-requires c κs =
-    let s = c .before .before .before .before .before .before .before .before .before in (
+    let s = c .before .before .before .before .before .before .before .before .before .before .before in (
       s .pre .0,
       (
         s .pre .1 .0 .named .whole,

@@ -41,16 +41,16 @@ many : (s : tie.Start) → s .args .first-names + s .args .second-names ≡ leng
 many s = omega (arith, many-one s, many-two s, length-append (one s) (two s))
 
 -- the ends, as much of their row as is lent
-taken : (c : tie.After-put-both) → let s = c .before .before .before .before .before .before .before .before .before .before in
-    take (s .args .first-names + s .args .second-names) (c .put-both .last .1 .1 .1 .1 .1 .1 .1 .0) ≡ endsFrom 0
+taken : (c : tie.After-put-both) → let s = c .before .before .before .before .before .before .before .before .before .before .before .before in
+    take (s .args .first-names + s .args .second-names) (c .put-both .last .1 .1 .1 .1 .1 .1 .1 .1 .1 .0) ≡ endsFrom 0
     (one s ++ two s)
 taken c =
-    let s = c .before .before .before .before .before .before .before .before .before .before in
+    let s = c .before .before .before .before .before .before .before .before .before .before .before .before in
     ends-taken (s .args .first-names + s .args .second-names) (c .put-both .ensures) (many s)
 
 put-both-requires : tie.Need-put-both-requires
 put-both-requires c κs =
-    let s = c .before .before .before .before .before .before .before .before .before in (
+    let s = c .before .before .before .before .before .before .before .before .before .before .before in (
       s .pre .0,
       (
         s .pre .1 .0 .whole,
@@ -73,7 +73,7 @@ array-share-prefix-ends c = search needs
 slice-aggregate-find-partners : tie.Need-slice-aggregate-find-partners
 slice-aggregate-find-partners c =
     let s = c .before .before .before .before .before .before .before .before .before .before .before .before .before
-    .before .before in
+    .before .before .before .before in
     sym (ap length (taken (c .before .before .before .before .before)) ∙ length-endsFrom 0 (one s ++ two s) ∙ sym (many s))
 
 array-borrow-prefix-row : tie.Need-array-borrow-prefix-row
@@ -82,7 +82,7 @@ array-borrow-prefix-row c = search needs
 slice-aggregate-find-partners-2 : tie.Need-slice-aggregate-find-partners-2
 slice-aggregate-find-partners-2 c =
     let s = c .before .before .before .before .before .before .before .before .before .before .before .before .before
-    .before .before .before in
+    .before .before .before .before .before in
     sym (length-take-le (s .args .first-names + s .args .second-names) _ (omega
     (arith, s .pre .1 .0 .most, s .pre .1 .1 .0 .most)))
 
@@ -92,7 +92,7 @@ slice-aggregate-find-partners-3 c = search needs
 find-partners-requires : tie.Need-find-partners-requires
 find-partners-requires c κs =
     let s = c .before .before .before .before .before .before .before .before .before .before .before .before .before
-    .before .before .before .before .before .before in
+    .before .before .before .before .before .before .before .before in
     let put = c .before .before .before .before .before .before .before .before .before in
     let ends = taken put in
     let long = ap length ends ∙ length-endsFrom 0 (one s ++ two s) in
@@ -123,7 +123,7 @@ returns : tie.Need-returns
 returns c =
     let put = c .before .before .before .before .before .before .before .before .before .before .before .before
     .before .before .before .before in
-    let s = put .before .before .before .before .before .before .before .before .before .before in
+    let s = put .before .before .before .before .before .before .before .before .before .before .before .before in
     reports-found (s .args .first-names) (put .put-both .ensures) (s .pre .1 .1 .1 .0) (many-one s)
     (rw (taken put) at (c .before .before .before .before .before .before .find-partners .ensures))
 

@@ -33,7 +33,7 @@ many s = s .pre .1 .1 .1 .0 ∙ sym (length-map (namesIn (s .args .first .now)) 
 
 put-keys-requires : tie.Need-put-keys-requires
 put-keys-requires c κs =
-    let s = c .before .before .before .before .before .before .before .before in (
+    let s = c .before .before .before .before .before .before .before .before .before .before in (
       s .pre .0,
       (
         s .pre .1 .0,
@@ -47,7 +47,7 @@ put-keys-requires c κs =
 put-keys-requires-2 : tie.Need-put-keys-requires-2
 put-keys-requires-2 c κs =
     let s = c .before .before .before .before .before .before .before .before .before .before .before .before .before
-    .before .before in
+    .before .before .before .before in
     let p = c .before .before .before .before .before .before .put-keys in (
       s .pre .0,
       (
@@ -86,7 +86,7 @@ same-length-2 c = search needs
 returns : tie.Need-returns
 returns c =
     let s = c .before .before .before .before .before .before .before .before .before .before .before .before .before
-    .before .before .before .before .before .before .before in
+    .before .before .before .before .before .before .before .before .before in
     let key = keyOf (s .args .collation) (mappingOf (table (s .args .entries .now) (s .args .pool .now))) in
     let second = rw (many s) at (c .before .before .before .before .put-keys2 .ensures) in
     both-put (one s) (two s) (s .args .store .now) (s .args .ends .now) (c .before .before .before .before .before

@@ -18,18 +18,18 @@ use Rattle.lists.proofs.putting.put_keys.Statement.{statement}
 use Rattle.lists.proofs.putting.put_keys.Tie as tie
 
 abbrev Inv-loop : tie.InvT-loop
-Inv-loop collation list entries pool from store₀ index ends₀ at₀ end₀ i₀ store ends at end i =
+Inv-loop collation list entries pool presence ranks from store₀ index ends₀ at₀ end₀ i₀ store ends at end i =
     PuttingNames (keyOf collation (mappingOf (table entries pool))) list from store₀ index ends₀ (at .0) end i store ends
 
 abbrev μ-loop : tie.MeasureT-loop
-μ-loop collation list entries pool from store₀ index ends₀ at₀ end₀ i₀ store ends at end i = length list - at .0
+μ-loop collation list entries pool presence ranks from store₀ index ends₀ at₀ end₀ i₀ store ends at end i = length list - at .0
 
 -- the keys, by the function's entry
 abbrev key : tie.Start Inv-loop μ-loop → List ℕ → List ℕ
 key s = keyOf (s .args .collation) (mappingOf (table (s .args .entries .now) (s .args .pool .now)))
 
 abbrev start : tie.At-loop Inv-loop μ-loop → tie.Start Inv-loop μ-loop
-start c = c .before .before .before .before .before .before
+start c = c .before .before .before .before .before .before .before .before
 
 -- where a name was read: the loop's place, and the name
 abbrev here : tie.After-name-at Inv-loop μ-loop → tie.At-loop Inv-loop μ-loop
@@ -53,7 +53,7 @@ room c =
 put : (c : tie.After-put-key Inv-loop μ-loop)
     → let n = c .before .before .before in
     Puts (key (start (here n)) (there n)) (drop (here n .loop .end) (here n .loop .store)) (c .put-key .result .«key_length»)
-    (c .put-key .last .1 .1 .1 .1 .0)
+    (c .put-key .last .1 .1 .1 .1 .1 .1 .0)
 put c =
     let l = here (c .before .before .before) in
     let s = start l in
@@ -62,7 +62,7 @@ put c =
 
 loop-holds : tie.Need-loop-holds Inv-loop μ-loop
 loop-holds c =
-    let s = c .before .before .before .before .before in
+    let s = c .before .before .before .before .before .before .before in
     names-start (key s) (s .args .list .now) (s .args .from) (s .args .store .now) (s .args .index) (s .args .ends .now)
     (s .pre .1 .0)
 
@@ -112,7 +112,7 @@ add-end : tie.Need-add-end Inv-loop μ-loop
 add-end c =
     let p = c .before .before .before in
     let n = named p in
-    omega (arith, room n, put p .count, here n .loop .inv .putting .longStore, start (here n) .good .1 .1 .1 .1 .1 .0)
+    omega (arith, room n, put p .count, here n .loop .inv .putting .longStore, start (here n) .good .1 .1 .1 .1 .1 .1 .1 .0)
 
 -- there is a place for the end
 place : (n : tie.After-name-at Inv-loop μ-loop) → here n .loop .i < length (here n .loop .ends)
@@ -125,8 +125,8 @@ place n =
 mul-ends : tie.Need-mul-ends Inv-loop μ-loop
 mul-ends c =
     let n = named (c .before .before .before) in
-    let g = start (here n) .good in
-    omega (arith, place n, here n .loop .inv .putting .longEnds)
+    let fits = start (here n) .good .1 .1 .1 .1 .1 .1 .1 .1 .1 .0 in
+    omega (arith, fits, place n, here n .loop .inv .putting .longEnds)
 
 slice-write-ends : tie.Need-slice-write-ends Inv-loop μ-loop
 slice-write-ends c = place (named (c .before .before .before))
@@ -134,8 +134,8 @@ slice-write-ends c = place (named (c .before .before .before))
 add-i : tie.Need-add-i Inv-loop μ-loop
 add-i c =
     let n = named (c .before .before .before) in
-    let g = start (here n) .good in
-    omega (arith, place n, here n .loop .inv .putting .longEnds)
+    let fits = start (here n) .good .1 .1 .1 .1 .1 .1 .1 .1 .1 .0 in
+    omega (arith, fits, place n, here n .loop .inv .putting .longEnds)
 
 loop-less : tie.Need-loop-less Inv-loop μ-loop
 loop-less c =
@@ -154,11 +154,11 @@ loop-again c =
     let n = named p in
     let l = here n in
     let s = start l in
-    rw (put-back (l .loop .end) (l .loop .store) (p .put-key .last .1 .1 .1 .1 .0))
+    rw (put-back (l .loop .end) (l .loop .store) (p .put-key .last .1 .1 .1 .1 .1 .1 .0))
     (names-more (key s) (s .args .list .now) (l .loop .inv) (s .pre .1 .1 .0) (s .pre .1 .1 .1) (n .name-at .result)
     (n .name-at .ensures)
     (p .put-key .result .«key_length»)
-    (p .put-key .last .1 .1 .1 .1 .0)
+    (p .put-key .last .1 .1 .1 .1 .1 .1 .0)
     (put p))
 
 same-length : tie.Need-same-length Inv-loop μ-loop

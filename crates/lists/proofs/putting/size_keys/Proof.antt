@@ -7,6 +7,8 @@ use native.Mathlib.Omega.{arith}
 use mathlib.Core.List.{List, map}
 use lib.ListN.{length}
 use Rattle.table.specs.Table.{table, mappingOf}
+use Rattle.pages.specs.Pages.{pages}
+use Rattle.keys.proofs.Collations.{usable-accepted}
 use Rattle.keys.specs.Keys.{prepared, keyOf}
 use Rattle.keys.proofs.Bounds.{key-within}
 use Rattle.lists.specs.Names.{namesIn, namesFrom}
@@ -19,24 +21,24 @@ use Rattle.lists.proofs.putting.size_keys.Statement.{statement}
 use Rattle.lists.proofs.putting.size_keys.Tie as tie
 
 abbrev Inv-loop : tie.InvT-loop
-Inv-loop collation list entries pool at₀ size₀ at size =
+Inv-loop collation list entries pool presence ranks at₀ size₀ at size =
     (let key = keyOf collation (mappingOf (table entries pool)) in
     Walking key list (at .0)
     × (size + length (joined (map key (namesFrom list (at .0)))) ≡ length (joined (map key (namesIn list)))))
 
 abbrev μ-loop : tie.MeasureT-loop
-μ-loop collation list entries pool at₀ size₀ at size = length list - at .0
+μ-loop collation list entries pool presence ranks at₀ size₀ at size = length list - at .0
 
 -- the keys, by the function's entry
 abbrev key : tie.Start Inv-loop μ-loop → List ℕ → List ℕ
 key s = keyOf (s .args .collation) (mappingOf (table (s .args .entries .now) (s .args .pool .now)))
 
 abbrev start : tie.At-loop Inv-loop μ-loop → tie.Start Inv-loop μ-loop
-start c = c .before .before .before .before
+start c = c .before .before .before .before .before .before
 
 loop-holds : tie.Need-loop-holds Inv-loop μ-loop
 loop-holds c =
-    let s = c .before .before .before in (walking-start (key s) (s .args .list .now) (s .pre .1 .0), omega arith)
+    let s = c .before .before .before .before .before in (walking-start (key s) (s .args .list .now) (s .pre .1 .0), omega arith)
 
 name-at-requires : tie.Need-name-at-requires Inv-loop μ-loop
 name-at-requires c κs = (c .if1 .taken, c .before .before .loop .inv .0 .whole)
@@ -74,7 +76,8 @@ add-size c =
       l .loop .inv .1,
       long-name (key s) (s .args .list .now) (l .loop .inv .0) (n .name-at .result) (n .name-at .ensures),
       joined-most (key s) (λ t. key-within (s .args .collation) (table (s .args .entries .now) (s .args .pool .now)) t
-          (s .pre .0))
+          (usable-accepted (s .args .collation) (table (s .args .entries .now) (s .args .pool .now))
+          (pages (s .args .presence .now) (s .args .ranks .now)) (s .pre .0)))
           (namesIn (s .args .list .now)),
       s .pre .1 .1,
     )

@@ -8,6 +8,8 @@ use lib.ListN.{length}
 use borrow.Author.Needs.{needs}
 use Rattle.terms.specs.Refusals.{expansionMost}
 use Rattle.table.specs.Table.{table, mappingOf}
+use Rattle.pages.specs.Pages.{pages}
+use Rattle.keys.proofs.Collations.{usable-accepted}
 use Rattle.keys.specs.Keys.{keyOf}
 use Rattle.keys.proofs.Bounds.{key-within}
 use Rattle.storing.specs.Stored.{joined, stringsIn}
@@ -26,11 +28,13 @@ needed s = length (joined (map (key s) (stringsIn (s .args .octets .now) (s .arg
 most : (s : tie.Start) → needed s ≤ expansionMost * length (s .args .octets .now)
 most s =
     keys-within (s .args .octets .now) (s .args .ends .now) (s .pre .1) (key s)
-    (λ t. key-within (s .args .collation) (table (s .args .entries .now) (s .args .pool .now)) t (s .pre .0))
+    (λ t. key-within (s .args .collation) (table (s .args .entries .now) (s .args .pool .now)) t
+    (usable-accepted (s .args .collation) (table (s .args .entries .now) (s .args .pool .now))
+    (pages (s .args .presence .now) (s .args .ranks .now)) (s .pre .0)))
 
 returns : tie.Need-returns
 returns c =
-    let s = c .before .before .before .before .before in
+    let s = c .before .before .before .before .before .before .before in
     store-enough {room = s .args .room} {needed = needed s} (omega (arith, most s, c .if1 .taken))
 
 size-many-requires : tie.Need-size-many-requires
@@ -41,7 +45,7 @@ returns-2 c = rw (← c .before .size-many .ensures) (store-short (c .if2 .taken
 
 returns-3 : tie.Need-returns-3
 returns-3 c =
-    let s = c .before .before .before .before .before .before .before in
+    let s = c .before .before .before .before .before .before .before .before .before in
     store-enough {room = s .args .room} {needed = needed s} (omega (arith, c .before .size-many .ensures, c .if2 .left))
 
 pub check-store-spec : {M : Type 1} → statement M

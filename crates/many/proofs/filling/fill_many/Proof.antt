@@ -17,13 +17,12 @@ use Rattle.many.proofs.filling.fill_many.Tie as tie
 abbrev call : tie.Start → ManyCall
 call s =
     let a = s .args in
-    manyCall (some (a .collation)) (a .octets .now) (a .ends .now) (a .entries .now) (a .pool .now) (a .store .now)
-    (a .key-ends .now)
-    (a .valid .now)
+    manyCall (some (a .collation)) (a .octets .now) (a .ends .now) (a .entries .now) (a .pool .now)
+    (a .presence .now) (a .ranks .now) (a .store .now) (a .key-ends .now) (a .valid .now)
 
 -- where the store was checked: the function's entry
 abbrev start : tie.After-check-store → tie.Start
-start c = c .before .before .before .before .before .before .before .before
+start c = c .before .before .before .before .before .before .before .before .before .before
 
 check-store-requires : tie.Need-check-store-requires
 check-store-requires c κs = search needs

@@ -23,13 +23,13 @@ use Rattle.many.proofs.filling.put_many.Statement.{statement}
 use Rattle.many.proofs.filling.put_many.Tie as tie
 
 abbrev Inv-loop : tie.InvT-loop
-Inv-loop collation octets ends entries pool store₀ key-ends₀ valid₀ i₀ end₀ store key-ends valid i end =
+Inv-loop collation octets ends entries pool presence ranks store₀ key-ends₀ valid₀ i₀ end₀ store key-ends valid i end =
     (let m = mappingOf (table entries pool) in
     Filling (keyOf collation m) (λ t. truth (prepared collation m t .valid)) octets ends store₀ key-ends₀ valid₀ i end store
     key-ends valid)
 
 abbrev μ-loop : tie.MeasureT-loop
-μ-loop collation octets ends entries pool store₀ key-ends₀ valid₀ i₀ end₀ store key-ends valid i end = length ends - i
+μ-loop collation octets ends entries pool presence ranks store₀ key-ends₀ valid₀ i₀ end₀ store key-ends valid i end = length ends - i
 
 -- the keys and what is said of validity, by the function's entry
 abbrev mapping : tie.Start Inv-loop μ-loop → Mapping
@@ -42,7 +42,7 @@ abbrev value : tie.Start Inv-loop μ-loop → List ℕ → ℕ
 value s t = truth (prepared (s .args .collation) (mapping s) t .valid)
 
 abbrev start : tie.At-loop Inv-loop μ-loop → tie.Start Inv-loop μ-loop
-start c = c .before .before .before .before .before .before .before .before
+start c = c .before .before .before .before .before .before .before .before .before .before
 
 -- where a text was found: the loop's place, and the text
 abbrev here : tie.After-key-at Inv-loop μ-loop → tie.At-loop Inv-loop μ-loop
@@ -73,19 +73,19 @@ found c = c .before .before
 
 put : (c : tie.After-put-key Inv-loop μ-loop) → let l = here (found c) in
     KeyPut (prepared (start l .args .collation) (mapping (start l)) (text (found c))) (drop (l .loop .end) (l .loop .store))
-    (c .put-key .result) (c .put-key .last .1 .1 .1 .1 .0)
+    (c .put-key .result) (c .put-key .last .1 .1 .1 .1 .1 .1 .0)
 put c =
     let l = here (found c) in
     rw (found c .key-at .ensures, take-drop (l .loop .end) (l .loop .store)) at (c .put-key .ensures)
 
 puts : (c : tie.After-put-key Inv-loop μ-loop) → let l = here (found c) in
     Puts (key (start l) (text (found c))) (drop (l .loop .end) (l .loop .store)) (c .put-key .result .«key_length»)
-    (c .put-key .last .1 .1 .1 .1 .0)
+    (c .put-key .last .1 .1 .1 .1 .1 .1 .0)
 puts c = let s = start (here (found c)) in key-put (s .args .collation) (mapping s) (text (found c)) (put c)
 
 loop-holds : tie.Need-loop-holds Inv-loop μ-loop
 loop-holds c =
-    let s = c .before .before .before .before .before .before .before in
+    let s = c .before .before .before .before .before .before .before .before .before in
     filling-start (key s) (value s) (s .args .octets .now) (s .args .ends .now) (s .args .store .now) (s .args .key-ends .now)
     (s .args .valid .now)
 
@@ -124,14 +124,14 @@ add-end : tie.Need-add-end Inv-loop μ-loop
 add-end c =
     let p = c .before .before .before in
     let l = here (found p) in
-    let g = start l .good in
-    omega (arith, room (found p), puts p .count, l .loop .inv .putting .longStore)
+    let fits = start l .good .1 .1 .1 .1 .1 .1 .1 .0 in
+    omega (arith, fits, room (found p), puts p .count, l .loop .inv .putting .longStore)
 
 mul-key-ends : tie.Need-mul-key-ends Inv-loop μ-loop
 mul-key-ends c =
     let k = found (c .before .before .before) in
-    let g = start (here k) .good in
-    omega (arith, place k, here k .loop .inv .putting .longEnds)
+    let fits = start (here k) .good .1 .1 .1 .1 .1 .1 .1 .1 .0 in
+    omega (arith, fits, place k, here k .loop .inv .putting .longEnds)
 
 slice-write-key-ends : tie.Need-slice-write-key-ends Inv-loop μ-loop
 slice-write-key-ends c = place (found (c .before .before .before))
@@ -147,8 +147,8 @@ slice-write-valid c =
 add-i : tie.Need-add-i Inv-loop μ-loop
 add-i c =
     let k = found (c .before .before .before .before) in
-    let g = start (here k) .good in
-    omega (arith, place k, here k .loop .inv .putting .longEnds)
+    let fits = start (here k) .good .1 .1 .1 .1 .1 .1 .1 .1 .0 in
+    omega (arith, fits, place k, here k .loop .inv .putting .longEnds)
 
 loop-less : tie.Need-loop-less Inv-loop μ-loop
 loop-less c = omega (arith, found (c .before .before .before .before) .before .loop-test .taken)
@@ -161,11 +161,11 @@ loop-again c =
     let s = start l in
     let numbers = put p .numbers in
     let valid : truth (p .put-key .result .valid) ≡ value s (text k) = cc in
-    rw (put-back (l .loop .end) (l .loop .store) (p .put-key .last .1 .1 .1 .1 .0))
+    rw (put-back (l .loop .end) (l .loop .store) (p .put-key .last .1 .1 .1 .1 .1 .1 .0))
     (filling-more (key s) (value s) (s .args .octets .now) (s .args .ends .now) (l .loop .inv) (s .pre .1 .1 .0)
     (s .pre .1 .1 .1 .0) (s .pre .1 .1 .1 .1) (k .before .loop-test .taken)
     (p .put-key .result .«key_length»)
-    (p .put-key .last .1 .1 .1 .1 .0)
+    (p .put-key .last .1 .1 .1 .1 .1 .1 .0)
     (puts p)
     (c .one-if .result)
     (c .one-if .ensures ∙ valid))

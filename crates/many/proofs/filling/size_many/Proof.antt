@@ -9,6 +9,8 @@ use lib.ListN.{length, drop}
 use borrow.Author.Needs.{needs}
 use Rattle.terms.specs.Lists.{each}
 use Rattle.table.specs.Table.{table, mappingOf}
+use Rattle.pages.specs.Pages.{pages}
+use Rattle.keys.proofs.Collations.{usable-accepted}
 use Rattle.keys.specs.Keys.{prepared, keyOf}
 use Rattle.keys.proofs.Bounds.{key-within}
 use Rattle.sorting.specs.KeyOrder.{keyIn}
@@ -20,20 +22,20 @@ use Rattle.many.proofs.filling.size_many.Statement.{statement}
 use Rattle.many.proofs.filling.size_many.Tie as tie
 
 abbrev Inv-loop : tie.InvT-loop
-Inv-loop collation octets ends entries pool i₀ size₀ i size =
+Inv-loop collation octets ends entries pool presence ranks i₀ size₀ i size =
     (let key = keyOf collation (mappingOf (table entries pool)) in
     (i ≤ length ends)
     × (size + length (joined (map key (drop i (stringsIn octets ends)))) ≡ length (joined (map key (stringsIn octets ends)))))
 
 abbrev μ-loop : tie.MeasureT-loop
-μ-loop collation octets ends entries pool i₀ size₀ i size = length ends - i
+μ-loop collation octets ends entries pool presence ranks i₀ size₀ i size = length ends - i
 
 -- the keys, by the function's entry
 abbrev key : tie.Start Inv-loop μ-loop → List ℕ → List ℕ
 key s = keyOf (s .args .collation) (mappingOf (table (s .args .entries .now) (s .args .pool .now)))
 
 abbrev start : tie.At-loop Inv-loop μ-loop → tie.Start Inv-loop μ-loop
-start c = c .before .before .before .before .before
+start c = c .before .before .before .before .before .before .before
 
 -- where a text was found: the loop's place, and the text
 abbrev here : tie.After-key-at Inv-loop μ-loop → tie.At-loop Inv-loop μ-loop
@@ -87,7 +89,9 @@ add-size c =
       here k .loop .inv .1,
       long k,
       keys-few (s .args .octets .now) (s .args .ends .now) (s .pre .1) (key s)
-          (λ t. key-within (s .args .collation) (table (s .args .entries .now) (s .args .pool .now)) t (s .pre .0)),
+          (λ t. key-within (s .args .collation) (table (s .args .entries .now) (s .args .pool .now)) t
+          (usable-accepted (s .args .collation) (table (s .args .entries .now) (s .args .pool .now))
+          (pages (s .args .presence .now) (s .args .ranks .now)) (s .pre .0))),
       s .pre .1 .few,
     )
 

@@ -1,4 +1,4 @@
--- `mz_texts::two_texts::mz_equal` meets its contract: the row of what `equal` answers, and both keys.
+-- `mz_texts::two_texts::mz_equal` meets its contract: the row of what `equal` answers, both keys, and the pages.
 -- Assumes nothing.
 use borrow.Author.Needs.{needs}
 use Rattle.mz_texts.proofs.Answered.{called→row}
@@ -17,10 +17,19 @@ same-length c = search needs
 same-length-2 : tie.Need-same-length-2
 same-length-2 c = search needs
 
+same-length-3 : tie.Need-same-length-3
+same-length-3 c = search needs
+
+same-length-4 : tie.Need-same-length-4
+same-length-4 c = search needs
+
 -- the row of the answer
 returns : tie.Need-returns
-returns c = called→row (c .before .before .before .before .before .equal .ensures) (c .equality-row .ensures)
+returns c =
+    let called = c .before .before .before .before .before .before .before .before .before .equal .ensures in
+    record { row = called→row (called .called) (c .equality-row .ensures); paged = called .paged }
 
 pub mz-equal-spec : {M : Type 1} → statement M
 mz-equal-spec =
-    tie.close (tie.spec equal-requires equality-row-requires same-length same-length-2 returns)
+    tie.close
+    (tie.spec equal-requires equality-row-requires same-length same-length-2 same-length-3 same-length-4 returns)

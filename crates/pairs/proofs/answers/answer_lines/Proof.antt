@@ -15,7 +15,7 @@ use Rattle.pairs.proofs.answers.answer_lines.Statement.{statement}
 use Rattle.pairs.proofs.answers.answer_lines.Tie as tie
 
 abbrev Inv-loop : tie.InvT-loop
-Inv-loop fd buffer₀ entries pool first-key₀ second-key₀ out₀ reader₀ output₀ count₀ buffer first-key second-key out reader output count =
+Inv-loop fd buffer₀ entries pool presence ranks first-key₀ second-key₀ out₀ reader₀ output₀ count₀ buffer first-key second-key out reader output count =
     (length buffer ≡ length buffer₀)
     × (length first-key ≡ length first-key₀)
     × (length second-key ≡ length second-key₀)
@@ -25,12 +25,12 @@ Inv-loop fd buffer₀ entries pool first-key₀ second-key₀ out₀ reader₀ o
     × (count + reader .left ≤ 1152921504606846976)
 
 abbrev μ-loop : tie.MeasureT-loop
-μ-loop fd buffer₀ entries pool first-key₀ second-key₀ out₀ reader₀ output₀ count₀ buffer first-key second-key out reader output count =
+μ-loop fd buffer₀ entries pool presence ranks first-key₀ second-key₀ out₀ reader₀ output₀ count₀ buffer first-key second-key out reader output count =
     reader .left
 
 -- at the loop's head: the function's entry, and that the output buffer is as long as it was there
 abbrev entry : tie.At-loop Inv-loop μ-loop → tie.Start Inv-loop μ-loop
-entry l = l .before .before .before .before .before .before .before .before .before .before .before .before
+entry l = l .before .before .before .before .before .before .before .before .before .before .before .before .before .before
 
 same-out : (l : tie.At-loop Inv-loop μ-loop) → length (l .loop .out) ≡ length (entry l .args .out .now)
 same-out l = l .loop .inv .3 ∙ l .before .before .before .start .kept .0
@@ -49,12 +49,12 @@ same-buffer : (p : tie.After-answer-next Inv-loop μ-loop)
 same-buffer p = p .answer-next .kept .1 .0 ∙ head p .loop .inv .0
 
 same-first : (p : tie.After-answer-next Inv-loop μ-loop)
-    → length (p .answer-next .last .1 .1 .1 .1 .1 .0) ≡ length (entry (head p) .args .first-key .now)
-same-first p = p .answer-next .kept .1 .1 .1 .1 .1 .0 ∙ head p .loop .inv .1
+    → length (p .answer-next .last .1 .1 .1 .1 .1 .1 .1 .0) ≡ length (entry (head p) .args .first-key .now)
+same-first p = p .answer-next .kept .1 .1 .1 .1 .1 .1 .1 .0 ∙ head p .loop .inv .1
 
 same-second : (p : tie.After-answer-next Inv-loop μ-loop)
-    → length (p .answer-next .last .1 .1 .1 .1 .1 .1 .0) ≡ length (entry (head p) .args .second-key .now)
-same-second p = p .answer-next .kept .1 .1 .1 .1 .1 .1 .0 ∙ head p .loop .inv .2
+    → length (p .answer-next .last .1 .1 .1 .1 .1 .1 .1 .1 .0) ≡ length (entry (head p) .args .second-key .now)
+same-second p = p .answer-next .kept .1 .1 .1 .1 .1 .1 .1 .1 .0 ∙ head p .loop .inv .2
 
 -- where it was an answer, which was put
 abbrev called : tie.After-answered Inv-loop μ-loop → tie.After-answer-next Inv-loop μ-loop
@@ -90,14 +90,14 @@ new-requires c κs = search needs
 
 -- room for two lines
 start-requires : tie.Need-start-requires Inv-loop μ-loop
-start-requires c κs = c .before .before .before .before .before .before .before .before .pre .1
+start-requires c κs = c .before .before .before .before .before .before .before .before .before .before .pre .1
 
 -- before the first line
 loop-holds : tie.Need-loop-holds Inv-loop μ-loop
 loop-holds c =
     let started = c .before .before in
     let made = started .before .before in
-    let s = made .before .before .before .before .before .before .before in (
+    let s = made .before .before .before .before .before .before .before .before .before in (
       refl,
       refl,
       refl,
@@ -155,8 +155,8 @@ loop-again c =
     let p = put-at a in
     let inv = head p .loop .inv in (
       p .answer-next .kept .1 .0 ∙ inv .0,
-      p .answer-next .kept .1 .1 .1 .1 .1 .0 ∙ inv .1,
-      p .answer-next .kept .1 .1 .1 .1 .1 .1 .0 ∙ inv .2,
+      p .answer-next .kept .1 .1 .1 .1 .1 .1 .1 .0 ∙ inv .1,
+      p .answer-next .kept .1 .1 .1 .1 .1 .1 .1 .1 .0 ∙ inv .2,
       a .add-answer .kept .1 .0 ∙ inv .3,
       stands-same _ _ _ (inv .0) (told-at a .stands),
       omega (arith, a .add-answer .ensures, inv .3),
@@ -177,8 +177,8 @@ loop-again-2 c =
     let p = called2 k in
     let inv = head p .loop .inv in (
       p .answer-next .kept .1 .0 ∙ inv .0,
-      p .answer-next .kept .1 .1 .1 .1 .1 .0 ∙ inv .1,
-      p .answer-next .kept .1 .1 .1 .1 .1 .1 .0 ∙ inv .2,
+      p .answer-next .kept .1 .1 .1 .1 .1 .1 .1 .0 ∙ inv .1,
+      p .answer-next .kept .1 .1 .1 .1 .1 .1 .1 .1 .0 ∙ inv .2,
       inv .3,
       stands-same _ _ _ (inv .0) (nothing-at k .stands),
       inv .5,

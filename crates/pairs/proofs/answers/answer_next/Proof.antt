@@ -12,7 +12,7 @@ use Rattle.pairs.proofs.answers.answer_next.Tie as tie
 
 -- where the next line was asked for: the function's entry, and what came
 abbrev start : tie.After-next-line → tie.Start
-start p = p .before .before .before .before .before .before .before
+start p = p .before .before .before .before .before .before .before .before .before
 
 came : (p : tie.After-next-line) (x : Next) → p .next-line .result ≡ x
     → Nexts (length (start p .args .buffer .now)) (start p .args .reader .left) x

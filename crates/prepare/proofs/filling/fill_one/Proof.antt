@@ -5,7 +5,8 @@ use mathlib.Core.Path.{sym, _∙_}
 use lib.ListN.{length}
 use borrow.Author.Needs.{needs}
 use Rattle.table.specs.Table.{table}
-use Rattle.keys.proofs.Collations.{tableUnder-unicode}
+use Rattle.pages.specs.Pages.{pages}
+use Rattle.keys.proofs.Collations.{usable-accepted, usable-unicode}
 use Rattle.keys.proofs.Bounds.{Roomy, roomy-enough}
 use Rattle.prepare.proofs.Rooms.{filled-written, one-written}
 use Rattle.prepare.proofs.filling.fill_one.Statement.{statement}
@@ -13,7 +14,7 @@ use Rattle.prepare.proofs.filling.fill_one.Tie as tie
 
 -- where the buffer is roomy: the function's entry, and that it is
 abbrev start : tie.Then1 → tie.Start
-start c = c .before .before .before .before .before .before
+start c = c .before .before .before .before .before .before .before .before
 
 enough : (c : tie.Then1) → Roomy (start c .args .collation) (length (start c .args .text .now)) (length (start c .args .key .now))
 enough c = roomy-enough _ _ _ (sym (c .before .is-roomy .ensures) ∙ c .if1 .taken)
@@ -27,7 +28,7 @@ fill-unicode-requires c κs =
     let r = c .before in
     let s = start r in (
       s .pre .0,
-      (tableUnder-unicode _ (enough r .unicode) (table (s .args .entries .now) (s .args .pool .now)) (s .pre .1), enough r .enough),
+      (usable-unicode _ (enough r .unicode) (s .pre .1), enough r .enough),
     )
 
 same-length : tie.Need-same-length
@@ -38,8 +39,10 @@ returns : tie.Need-returns
 returns c =
     let called = c .before .before in
     let r = called .before .before in
-    let table = start r .pre .1 in
-    one-written table (filled-written table (enough r) (called .fill-unicode .ensures))
+    let s = start r in
+    let accepted = usable-accepted (s .args .collation) (table (s .args .entries .now) (s .args .pool .now))
+    (pages (s .args .presence .now) (s .args .ranks .now)) (s .pre .1) in
+    one-written accepted (filled-written accepted (enough r) (called .fill-unicode .ensures))
 
 fill-one-sized-requires : tie.Need-fill-one-sized-requires
 fill-one-sized-requires c κs = search needs

@@ -6,7 +6,9 @@ use mathlib.Core.Option.{none}
 use lib.ListN.{length}
 use borrow.Author.Needs.{needs}
 use Rattle.table.specs.Table.{table, mappingOf}
+use Rattle.pages.specs.Pages.{pages}
 use Rattle.keys.specs.Keys.{prepared}
+use Rattle.keys.proofs.Collations.{usable-accepted}
 use Rattle.terms.specs.Refusals.{checkRefusal}
 use Rattle.prepare.specs.Promises.{roomNeeded}
 use Rattle.prepare.proofs.Rooms.{room-enough, one-written, one-refused}
@@ -15,7 +17,7 @@ use Rattle.prepare.proofs.filling.fill_one_sized.Tie as tie
 
 -- the function's entry, seen from past the sizing
 abbrev start : tie.After-size-key → tie.Start
-start c = c .before .before .before .before .before
+start c = c .before .before .before .before .before .before .before
 
 -- the key has room
 room : (c : tie.After-enum-told) → let sized = c .before .before .before in
@@ -54,7 +56,9 @@ returns c =
     let called = c .before .before in
     let ready = called .before .before in
     let sized = ready .before .before .before in
-    one-written (start sized .pre .1)
+    let s = start sized in
+    one-written (usable-accepted (s .args .collation) (table (s .args .entries .now) (s .args .pool .now))
+    (pages (s .args .presence .now) (s .args .ranks .now)) (s .pre .1))
     (record { sized = sized .size-key .ensures; room = room ready; left = called .write-key .ensures })
 
 -- too little room

@@ -1,13 +1,13 @@
 -- `prepare::filling::fill_two` meets its contract: where both buffers are roomy 8 does not apply, and both keys are filled
 -- in; else they are sized first.
 -- Assumes nothing.
-use mathlib.Core.Path.{_≡_, sym, _∙_}
-use mathlib.Core.Option.{none}
+use mathlib.Core.Path.{sym, _∙_}
 use lib.ListN.{length}
 use borrow.Author.Needs.{needs}
 use Rattle.table.specs.Table.{table}
-use Rattle.decompose.specs.TableCheck.{tableRefusal}
-use Rattle.keys.proofs.Collations.{tableUnder-unicode}
+use Rattle.pages.specs.Pages.{pages}
+use Rattle.decompose.specs.TableCheck.{Usable}
+use Rattle.keys.proofs.Collations.{usable-accepted, usable-unicode}
 use Rattle.keys.proofs.Bounds.{Roomy, roomy-enough}
 use Rattle.prepare.proofs.Rooms.{filled-written, two-written}
 use Rattle.prepare.proofs.filling.fill_two.Statement.{statement}
@@ -15,7 +15,7 @@ use Rattle.prepare.proofs.filling.fill_two.Tie as tie
 
 -- where both buffers are roomy: the function's entry, and that they are
 abbrev start : tie.Then2 → tie.Start
-start c = c .before .before .before .before .before .before .before .before .before .before
+start c = c .before .before .before .before .before .before .before .before .before .before .before .before
 
 first : (c : tie.Then2)
     → Roomy (start c .args .collation) (length (start c .args .first .now)) (length (start c .args .first-key .now))
@@ -27,10 +27,9 @@ second : (c : tie.Then2)
     → Roomy (start c .args .collation) (length (start c .args .second .now)) (length (start c .args .second-key .now))
 second c = roomy-enough _ _ _ (sym (c .before .is-roomy2 .ensures) ∙ c .if2 .taken)
 
-accepted : (c : tie.Then2) → tableRefusal (table (start c .args .entries .now) (start c .args .pool .now)) ≡ none
-accepted c =
-    let s = start c in
-    tableUnder-unicode _ (first c .unicode) (table (s .args .entries .now) (s .args .pool .now)) (s .pre .1 .1)
+usable : (c : tie.Then2) → let args = start c .args in
+    Usable (table (args .entries .now) (args .pool .now)) (pages (args .presence .now) (args .ranks .now))
+usable c = usable-unicode _ (first c .unicode) (start c .pre .1 .1)
 
 is-roomy-requires : tie.Need-is-roomy-requires
 is-roomy-requires c κs = search needs
@@ -40,11 +39,11 @@ is-roomy-requires-2 c κs = search needs
 
 -- both buffers are roomy
 fill-unicode-requires : tie.Need-fill-unicode-requires
-fill-unicode-requires c κs = let r = c .before in (start r .pre .0, (accepted r, first r .enough))
+fill-unicode-requires c κs = let r = c .before in (start r .pre .0, (usable r, first r .enough))
 
 fill-unicode-requires-2 : tie.Need-fill-unicode-requires-2
 fill-unicode-requires-2 c κs =
-    let r = c .before .before .before .before .before in (start r .pre .1 .0, (accepted r, second r .enough))
+    let r = c .before .before .before .before .before in (start r .pre .1 .0, (usable r, second r .enough))
 
 same-length : tie.Need-same-length
 same-length c = search needs
@@ -56,10 +55,12 @@ same-length-2 c = search needs
 returns : tie.Need-returns
 returns c =
     let r = c .before .before .before .before .before .before .before .before in
-    let table = start r .pre .1 .1 in
+    let s = start r in
+    let accepted = usable-accepted (s .args .collation) (table (s .args .entries .now) (s .args .pool .now))
+    (pages (s .args .presence .now) (s .args .ranks .now)) (s .pre .1 .1) in
     two-written
-    (filled-written table (first r) (c .before .before .before .before .before .before .fill-unicode .ensures))
-    (filled-written table (second r) (c .before .before .fill-unicode2 .ensures))
+    (filled-written accepted (first r) (c .before .before .before .before .before .before .fill-unicode .ensures))
+    (filled-written accepted (second r) (c .before .before .fill-unicode2 .ensures))
 
 fill-two-sized-requires : tie.Need-fill-two-sized-requires
 fill-two-sized-requires c κs = search needs

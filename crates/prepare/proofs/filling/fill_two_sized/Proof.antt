@@ -17,7 +17,7 @@ use Rattle.prepare.proofs.filling.fill_two_sized.Tie as tie
 
 -- the function's entry, seen from past the sizing, and the mapping there
 abbrev start : tie.After-size-key2 → tie.Start
-start c = c .before .before .before .before .before .before .before .before
+start c = c .before .before .before .before .before .before .before .before .before .before
 
 abbrev mapping : tie.After-size-key2 → Mapping
 mapping c = mappingOf (table (start c .args .entries .now) (start c .args .pool .now))

@@ -8,8 +8,8 @@ use Rattle.search.proofs.covering.cover.Statement.{statement}
 use Rattle.search.proofs.covering.cover.Tie as tie
 
 -- the function's entry
-abbrev start : tie.After-shared-slice-known3 → tie.Start
-start c = c .before .before .before
+abbrev start : tie.After-shared-slice-known5 → tie.Start
+start c = c .before .before .before .before .before
 
 -- the first octet is within the key
 find-holder-requires : tie.Need-find-holder-requires
@@ -32,7 +32,7 @@ add-k c =
       arith,
       first-offset utf8-decodes (s .args .text .now) (s .pre .1) (found .find-holder .ensures),
       s .pre .1 .some,
-      s .good .1 .1 .1 .1 .0,
+      s .good .1 .1 .1 .1 .1 .1 .0,
     )
 
 -- the last octet is within the key from there on

@@ -18,15 +18,15 @@ use Rattle.search.proofs.covering.find_holder.Statement.{statement}
 use Rattle.search.proofs.covering.find_holder.Tie as tie
 
 abbrev Inv-loop : tie.InvT-loop
-Inv-loop text entries pool at₀ left₀ at left =
+Inv-loop text entries pool presence ranks at₀ left₀ at left =
     Walking decode (mappingOf (table entries pool)) text (at₀ .0) (left₀ .0) (at .0) (left .0)
 
 abbrev μ-loop : tie.MeasureT-loop
-μ-loop text entries pool at₀ left₀ at left = length text - at .0
+μ-loop text entries pool presence ranks at₀ left₀ at left = length text - at .0
 
 -- at the loop's head: the function's entry, and the text
 abbrev start : tie.At-loop Inv-loop μ-loop → tie.Start Inv-loop μ-loop
-start l = l .before .before .before .before
+start l = l .before .before .before .before .before .before
 
 abbrev text-of : tie.At-loop Inv-loop μ-loop → List ℕ
 text-of l = start l .args .text .now
@@ -54,7 +54,7 @@ sized-at c = c .before .before .before
 
 -- before the first character
 loop-holds : tie.Need-loop-holds Inv-loop μ-loop
-loop-holds c = walking-start _ _ _ _ _ (c .before .before .before .pre .1)
+loop-holds c = walking-start _ _ _ _ _ (c .before .before .before .before .before .pre .1)
 
 -- a character follows
 read-valid-requires : tie.Need-read-valid-requires Inv-loop μ-loop
@@ -62,12 +62,14 @@ read-valid-requires c κs =
     let l = c .before .before in
     there-next utf8-decodes (text-of l) (l .loop .at .0) (l .loop .inv .has-octet .valid) (c .if1 .taken)
 
--- the table is accepted
+-- the table is accepted, and a decoded character is scalar
 size-expansion-requires : tie.Need-size-expansion-requires Inv-loop μ-loop
-size-expansion-requires c κs = start (head c) .pre .0
+size-expansion-requires c κs =
+    let l = head c in
+    (start l .pre .0, utf8-decodes .scalars (drop (l .loop .at .0) (text-of l)) (read c) (decoded c))
 
-add-t12 : tie.Need-add-t12 Inv-loop μ-loop
-add-t12 c =
+add-t14 : tie.Need-add-t14 Inv-loop μ-loop
+add-t14 c =
     let r = c .before .before .before in
     omega (arith, fits r, start (head r) .good .0 .0)
 
@@ -119,7 +121,7 @@ find-holder-spec =
     loop-holds
     read-valid-requires
     size-expansion-requires
-    add-t12
+    add-t14
     holder-at-requires
     returns
     sub-left
