@@ -9,7 +9,7 @@ archive=${MUNDEZIWA_ARCHIVE:-build/lib/libmundeziwa.a}
 out=build/bench
 # names made from the published file, and their keys by Mundeziwa and by straight C
 keyed=(bench/inputs.c bench/straight.c bench/straight_lines.c bench/peers_mundeziwa.c)
-sources=(bench/names.c bench/agreement.c "${keyed[@]}")
+sources=(bench/names.c bench/agreement.c bench/straight_paged.c "${keyed[@]}")
 lists=(bench/lists.c bench/list_inputs.c bench/straight_lists.c bench/straight_records.c "${keyed[@]}")
 flags=()
 list_flags=()
@@ -23,6 +23,21 @@ add_library() {
         libraries+=("-l$3")
     else
         echo "no column for $1: Debian's package $4 is missing"
+    fi
+}
+
+# Adds ICU's fold from UTF-8 to UTF-8, which has no call for C, if a program in C++ with it can be built.
+add_icu_casefold() {
+    if printf '#include <unicode/normalizer2.h>\nint main() { return 0; }\n' \
+        | c++ -x c++ - -o "$out/found" -licuuc 2> /dev/null; then
+        # In C a member that is not named is 0 and needs no warning.
+        c++ -std=c++20 -O3 -Wall -Wextra -Wno-missing-field-initializers -c -o "$out/peers_icu_casefold.o" \
+            bench/peers_icu_casefold.cc
+        sources+=("$out/peers_icu_casefold.o")
+        flags+=(-DWITH_ICU_CASEFOLD)
+        libraries+=(-licuuc -lstdc++)
+    else
+        echo "no column for ICU's NFKC_Casefold: Debian's package libicu-dev or g++ is missing"
     fi
 }
 
@@ -52,6 +67,7 @@ mkdir -p "$out"
 add_python
 add_second
 add_library icu unicode/unorm2.h icuuc libicu-dev
+add_icu_casefold
 add_library utf8proc utf8proc.h utf8proc libutf8proc-dev
 add_library unistring uninorm.h unistring libunistring-dev
 cc -O3 -Wall -Wextra -o "$out/occurrence" bench/occurrence.c target/staticlib/libbench_find.a

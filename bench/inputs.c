@@ -115,13 +115,21 @@ static struct text read_file(const char *path) {
     return (struct text){octets, length};
 }
 
-void make_inputs(struct inputs *inputs, const char *path) {
+// Builds the table of the lines and fills its pages.
+static struct table make_table(struct text lines) {
     static uint32_t entries[4 * ENTRIES_MOST], pool[POOL_MOST];
-    const struct table_room room = {entries, 4 * ENTRIES_MOST, pool, POOL_MOST};
+    static uint64_t presence[PAGES], ranks[PAGES];
+    struct table table = mundeziwa_peer.build(lines, (struct table_room){entries, 4 * ENTRIES_MOST, pool, POOL_MOST});
+    if (table.entries_length == 0) fail("a line of UnicodeData.txt is refused");
+    if (!mundeziwa_peer.fill(&table, (struct page_room){presence, ranks, PAGES})) fail("the table of UnicodeData.txt is refused");
+    table.presence = presence;
+    table.ranks = ranks;
+    return table;
+}
+
+void make_inputs(struct inputs *inputs, const char *path) {
     inputs->lines = read_file(path);
-    inputs->table = mundeziwa_peer.build(inputs->lines, room);
-    if (inputs->table.entries_length == 0) fail("a line of UnicodeData.txt is refused");
-    if (!mundeziwa_peer.check(&inputs->table)) fail("the table of UnicodeData.txt is refused");
+    inputs->table = make_table(inputs->lines);
     make_names(&inputs->latin, &inputs->table, latin_names, sizeof latin_names / sizeof *latin_names);
     make_names(&inputs->mixed, &inputs->table, mixed_names, sizeof mixed_names / sizeof *mixed_names);
     check_lengths(&inputs->latin);

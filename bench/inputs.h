@@ -18,7 +18,7 @@ struct names {
 };
 
 struct inputs {
-    // The lines of UnicodeData.txt, and the table built from them.
+    // The lines of UnicodeData.txt, and the table built from them, with its pages.
     struct text lines;
     struct table table;
     // Names in Latin letters, and names in many scripts.

@@ -14,16 +14,9 @@
 
 typedef bool (*sharer)(const struct table *table, struct text first, struct text second, struct buffer store,
                        struct shared *shared);
-// mz_find_shared, or its twin without the check of the table.
-typedef void (*finder)(uint32_t, const uint8_t *, size_t, const uint8_t *, size_t, const uint32_t *, size_t, const uint32_t *,
-                       size_t, uint8_t *, size_t, uint32_t *, size_t, uint32_t *, size_t, uint64_t[7]);
 
-static bool share(finder find, const struct table *table, struct text first, struct text second, struct buffer store,
-                  struct shared *shared) {
-    uint64_t answer[7];
-    find(MZ_UNICODE_CASEMAP, first.octets, first.length, second.octets, second.length, table->entries, table->entries_length,
-         table->pool, table->pool_length, store.octets, store.length, shared->partners, LIST_MOST, shared->positions, LIST_MOST,
-         answer);
+// Takes what a call of the library answered; whether it was not refused.
+static bool take_answer(const uint64_t answer[7], struct shared *shared) {
     shared->first_count = answer[3];
     shared->second_count = answer[4];
     shared->equal_pairs = answer[5];
@@ -33,12 +26,22 @@ static bool share(finder find, const struct table *table, struct text first, str
 
 static bool share_accepted(const struct table *table, struct text first, struct text second, struct buffer store,
                            struct shared *shared) {
-    return share(mz_find_shared_accepted, table, first, second, store, shared);
+    uint64_t answer[7];
+    mz_find_shared_accepted(MZ_UNICODE_CASEMAP, first.octets, first.length, second.octets, second.length, table->entries,
+                            table->entries_length, table->pool, table->pool_length, table->presence, PAGES, table->ranks, PAGES,
+                            store.octets, store.length, shared->partners, LIST_MOST, shared->positions, LIST_MOST, answer);
+    return take_answer(answer, shared);
 }
 
+// Fills pages of its own at each call.
 static bool share_checked(const struct table *table, struct text first, struct text second, struct buffer store,
                           struct shared *shared) {
-    return share(mz_find_shared, table, first, second, store, shared);
+    static uint64_t presence[PAGES], ranks[PAGES];
+    uint64_t answer[7];
+    mz_find_shared(MZ_UNICODE_CASEMAP, first.octets, first.length, second.octets, second.length, table->entries,
+                   table->entries_length, table->pool, table->pool_length, presence, PAGES, ranks, PAGES, store.octets,
+                   store.length, shared->partners, LIST_MOST, shared->positions, LIST_MOST, answer);
+    return take_answer(answer, shared);
 }
 
 static const struct program {

@@ -1,6 +1,6 @@
-// Mundeziwa beside other programs that prepare names, in one run: keys and equality of names, keys of long texts, the table check
-// and the building of the table. First it checks that the programs agree; then it prints the best of several rounds, the programs
-// in turn.
+// Mundeziwa beside other programs that prepare names, in one run: keys and equality of names, keys of long texts, the building of
+// the table, and what a call costs that checks the table and fills the pages. First it checks that the programs agree; then it
+// prints the best of several rounds, the programs in turn.
 #include "agreement.h"
 #include <stdio.h>
 #include <stdlib.h>
@@ -10,14 +10,17 @@
 // How often a long text is prepared in one round, so that a round of it takes about as long as one of the names.
 #define TEXT_CALLS 8
 
-// Mundeziwa, the straight loop that it must agree with, and those that were found when this was built.
+// Mundeziwa, the straight loops that it must agree with, and those that were found when this was built.
 static const struct peer *const peers[] = {
-    &mundeziwa_peer, &straight_peer,
+    &mundeziwa_peer, &straight_peer, &paged_peer, &paged_shift_peer,
 #ifdef WITH_SECOND
     &second_peer,
 #endif
 #ifdef WITH_ICU
     &icu_peer,
+#endif
+#ifdef WITH_ICU_CASEFOLD
+    &icu_casefold_peer,
 #endif
 #ifdef WITH_UTF8PROC
     &utf8proc_peer,
@@ -32,6 +35,7 @@ static struct inputs inputs;
 // The buffers that every peer writes; they are never cleared.
 static uint8_t first_key[KEY_GROWTH * TEXT_MOST], second_key[KEY_GROWTH * TEXT_MOST];
 static uint32_t rebuilt_entries[4 * ENTRIES_MOST], rebuilt_pool[POOL_MOST];
+static uint64_t refilled_presence[PAGES], refilled_ranks[PAGES];
 
 // One line of the printed table: what is timed, and the unit in nanoseconds.
 struct row {
@@ -85,6 +89,31 @@ static size_t run_check(const struct peer *peer, const struct row *row) {
     return 1;
 }
 
+// The call with a check, lent so much room for pages.
+static size_t run_checked(const struct peer *peer, const struct row *row, size_t page_length) {
+    if (!peer->prepare_checked) return 0;
+    const struct page_room pages = {refilled_presence, refilled_ranks, page_length};
+    struct text name = row->names->first[0];
+    sink = peer->prepare_checked(&inputs.table, pages, name, key_buffer(first_key, name, row->growth)).length;
+    return 1;
+}
+
+static size_t run_public_call(const struct peer *peer, const struct row *row) {
+    return run_checked(peer, row, PAGES);
+}
+
+// It is refused for its pages once the table is checked, and fills none.
+static size_t run_refused_call(const struct peer *peer, const struct row *row) {
+    return run_checked(peer, row, 0);
+}
+
+static size_t run_fill(const struct peer *peer, const struct row *row) {
+    (void)row;
+    if (!peer->fill) return 0;
+    sink = peer->fill(&inputs.table, (struct page_room){refilled_presence, refilled_ranks, PAGES});
+    return 1;
+}
+
 static size_t run_build(const struct peer *peer, const struct row *row) {
     (void)row;
     if (!peer->build) return 0;
@@ -112,28 +141,40 @@ static void time_peers(const struct row *row, double best[PEERS]) {
         }
 }
 
-static void print_row(const struct row *row) {
-    double best[PEERS];
-    time_peers(row, best);
-    printf("%-37s %-7s %9.1f", row->label, row->unit, best[0] / row->unit_ns);
+// The width of a peer's column.
+static int column(size_t p) {
+    int width = (int)strlen(peers[p]->name);
+    return width < 12 ? 12 : width;
+}
+
+static void print_best(const struct row *row, const double best[PEERS]) {
+    printf("%-39s %-7s %9.1f", row->label, row->unit, best[0] / row->unit_ns);
     for (size_t p = 1; p < PEERS; p++)
         if (best[p] > 0)
-            printf(" %12.1f %5.2f", best[p] / row->unit_ns, best[0] / best[p]);
+            printf(" %*.1f %5.2f", column(p), best[p] / row->unit_ns, best[0] / best[p]);
         else
-            printf(" %12s %5s", "-", "-");
+            printf(" %*s %5s", column(p), "-", "-");
     printf("\n");
     fflush(stdout);
 }
 
+static void print_row(const struct row *row) {
+    double best[PEERS];
+    time_peers(row, best);
+    print_best(row, best);
+}
+
 static void print_heading(void) {
-    printf("Best of %d rounds, the programs in turn, the same inputs and buffers.\n", ROUNDS);
-    printf("Ratio: Mundeziwa's time over the other's; below 1, Mundeziwa is quicker.\n\n");
-    printf("%-37s %-7s %9s", "", "unit", peers[0]->name);
-    for (size_t p = 1; p < PEERS; p++) printf(" %12s %5s", peers[p]->name, "ratio");
+    printf("Best of %d rounds, the programs in turn, the same inputs and buffers: %d times the text, unless it says 4 times.\n",
+           ROUNDS, KEY_GROWTH);
+    printf("Ratio: Mundeziwa's time over the other's; below 1, Mundeziwa is quicker. C over pages works on the library's own\n");
+    printf("slices, with the shift DFA the text is judged by shifts. NFKC_Casefold is another fold.\n\n");
+    printf("%-39s %-7s %9s", "", "unit", peers[0]->name);
+    for (size_t p = 1; p < PEERS; p++) printf(" %*s %5s", column(p), peers[p]->name, "ratio");
     printf("\n");
 }
 
-static void print_times(void) {
+static void print_keys(void) {
     const struct text none = {NULL, 0}, mixed_text = {inputs.mixed_text, TEXT_MOST}, prose = {inputs.prose, TEXT_MOST};
     const struct row rows[] = {
         {"Latin names, keys", "ns/name", 1, run_keys, &inputs.latin, none, KEY_GROWTH},
@@ -143,12 +184,32 @@ static void print_times(void) {
         {"many scripts, keys, buffer of 4 times", "ns/name", 1, run_keys, &inputs.mixed, none, SHORT_GROWTH},
         {"names of many scripts, equality", "ns/pair", 1, run_equality, &inputs.mixed, none, KEY_GROWTH},
         {"text of many scripts, 4,096 octets", "us", 1e3, run_text, NULL, mixed_text, KEY_GROWTH},
+        {"text of many scripts, buffer of 4 times", "us", 1e3, run_text, NULL, mixed_text, SHORT_GROWTH},
         {"English prose, 4,096 octets", "us", 1e3, run_text, NULL, prose, KEY_GROWTH},
-        {"table check", "us", 1e3, run_check, NULL, none, 0},
-        {"building the table", "us", 1e3, run_build, NULL, none, 0},
+        {"English prose, buffer of 4 times", "us", 1e3, run_text, NULL, prose, SHORT_GROWTH},
     };
-    print_heading();
     for (size_t i = 0; i < sizeof rows / sizeof *rows; i++) print_row(&rows[i]);
+}
+
+static void print_tables(void) {
+    const struct text none = {NULL, 0};
+    const struct row build = {"building the table", "us", 1e3, run_build, NULL, none, 0};
+    const struct row check = {"table check", "us", 1e3, run_check, NULL, none, 0};
+    const struct row call = {"public call on one name", "us", 1e3, run_public_call, &inputs.latin, none, KEY_GROWTH};
+    const struct row refused = {"of that, the table check", "us", 1e3, run_refused_call, &inputs.latin, none, KEY_GROWTH};
+    const struct row fill = {"of that, filling the pages", "us", 1e3, run_fill, NULL, none, 0};
+    double called[PEERS], checked[PEERS], filled[PEERS];
+    print_row(&build);
+    print_row(&check);
+    time_peers(&call, called);
+    time_peers(&refused, checked);
+    time_peers(&fill, filled);
+    // The library has no call that fills alone: it is what a call takes that fills, beyond one that is refused before. (The key
+    // of the one name is hardly seen.)
+    filled[0] = called[0] - checked[0];
+    print_best(&call, called);
+    print_best(&refused, checked);
+    print_best(&fill, filled);
 }
 
 // Ends the program if a peer that works by the lent table differs from Mundeziwa: the two would be timed at different work.
@@ -166,11 +227,12 @@ static void print_table_size(const char *path) {
            inputs.table.pool_length);
 }
 
-// ICU and the like prepare by tables of their own, of another edition perhaps, and by a rule that puts marks in order.
+// ICU and the like prepare by tables of their own, of another edition perhaps, and by a rule that puts marks in order; by
+// NFKC_Casefold only what has neither case nor parts has our key.
 static void print_agreement(void) {
     printf("Keys that are Mundeziwa's, of %d Latin names and of %d names of many scripts:\n", NAMES, NAMES);
     for (size_t p = 1; p < PEERS; p++)
-        printf("    %-14s %5zu %5zu\n", peers[p]->name, agreeing_keys(peers[p], &inputs, &inputs.latin, KEY_GROWTH),
+        printf("    %-17s %5zu %5zu\n", peers[p]->name, agreeing_keys(peers[p], &inputs, &inputs.latin, KEY_GROWTH),
                agreeing_keys(peers[p], &inputs, &inputs.mixed, KEY_GROWTH));
     printf("\n");
 }
@@ -179,9 +241,11 @@ int main(int count, char **arguments) {
     const char *path = count > 1 ? arguments[1] : "/usr/share/unicode/UnicodeData.txt";
     make_inputs(&inputs, path);
     for (size_t p = 0; p < PEERS; p++)
-        if (peers[p]->build) require_agreement(peers[p]);
+        if (peers[p]->by_table) require_agreement(peers[p]);
     print_table_size(path);
     print_agreement();
-    print_times();
+    print_heading();
+    print_keys();
+    print_tables();
     return 0;
 }

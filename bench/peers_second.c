@@ -52,9 +52,10 @@ static struct table build(struct text lines, struct table_room room) {
         struct text line = take_line(&lines);
         second_add_line(answer[3], answer[4], answer[5], line.octets, line.length, room.entries, room.entries_length, room.pool,
                         room.pool_length, answer);
-        if (answer[0] != 0) return (struct table){room.entries, 0, room.pool, 0};
+        if (answer[0] != 0) return table_in(room, 0, 0);
     }
-    return (struct table){room.entries, 4 * answer[3], room.pool, answer[4]};
+    return table_in(room, 4 * answer[3], answer[4]);
 }
 
-const struct peer second_peer = {.name = "second", .prepare = prepare, .equal = equal, .check = check, .build = build};
+const struct peer second_peer = {
+    .name = "second", .by_table = true, .prepare = prepare, .equal = equal, .check = check, .build = build};

@@ -169,4 +169,4 @@ static bool check(const struct table *table) {
 }
 
 const struct peer straight_peer = {
-    .name = "straight C", .prepare = prepare, .equal = equal, .check = check, .build = straight_build};
+    .name = "straight C", .by_table = true, .prepare = prepare, .equal = equal, .check = check, .build = straight_build};

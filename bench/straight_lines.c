@@ -116,6 +116,6 @@ static bool add_line(struct state *state, struct text line, struct table_room ro
 struct table straight_build(struct text lines, struct table_room room) {
     struct state state = {0, 0, 0};
     while (lines.length > 0)
-        if (!add_line(&state, take_line(&lines), room)) return (struct table){room.entries, 0, room.pool, 0};
-    return (struct table){room.entries, state.entries_used, room.pool, state.pool_used};
+        if (!add_line(&state, take_line(&lines), room)) return table_in(room, 0, 0);
+    return table_in(room, state.entries_used, state.pool_used);
 }

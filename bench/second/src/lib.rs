@@ -1,12 +1,16 @@
 //! The second program's calls for C, so that the benchmark can run them beside the library's. The parameters are those of
-//! include/mundeziwa.h, but for the table: a caller has it examined once and lends what came of that.
+//! include/mundeziwa.h, but for the table: a caller has it examined once and lends what came of that. No pages are lent, since
+//! the second program finds entries without them; it is told that they are long enough.
 //!
 //! Each pointer must be that of a slice of the length after it, as the header says.
 
 use second::collate::{self, Pair};
+use second::pages::{Lengths, PAGES};
 use second::table::{examine, Verdict};
 use second::unicode_data::{self, State};
 use std::slice::{from_raw_parts, from_raw_parts_mut};
+
+const ENOUGH: Lengths = Lengths { presence: PAGES, ranks: PAGES };
 
 /// Examines a table for many texts. The verdict is never freed: the benchmark has one table.
 ///
@@ -49,7 +53,7 @@ pub unsafe extern "C" fn second_prepare(
     answer: &mut [u64; 7],
 ) {
     let text = from_raw_parts(text, text_length);
-    *answer = collate::prepare(collation, text, verdict, from_raw_parts_mut(key, key_length));
+    *answer = collate::prepare(collation, text, verdict, ENOUGH, from_raw_parts_mut(key, key_length));
 }
 
 /// # Safety
@@ -69,7 +73,7 @@ pub unsafe extern "C" fn second_equal(
     answer: &mut [u64; 4],
 ) {
     let (first, second) = (from_raw_parts(first, first_length), from_raw_parts(second, second_length));
-    let pair = Pair { collation, first, second, verdict };
+    let pair = Pair { collation, first, second, verdict, pages: ENOUGH };
     let first_key = from_raw_parts_mut(first_key, first_key_length);
     *answer = collate::equal(&pair, first_key, from_raw_parts_mut(second_key, second_key_length));
 }
