@@ -16,7 +16,7 @@ use Rattle.utf8.specs.Utf8.{Character, characters}
 use Rattle.table.specs.Table.{Table}
 use Rattle.pages.specs.Pages.{Pages}
 use Rattle.decompose.specs.TableCheck.{tableRefusal, Usable}
-use Rattle.keys.specs.Keys.{unicodePrepared, prepared, tableUnder, UsableUnder, keyed}
+use Rattle.keys.specs.Keys.{unicodePrepared, prepared, tableUnder, UsableUnder}
 use Rattle.keys.specs.Summaries.{summaryNumbers, preparedNumbers, KeyFilled}
 use Rattle.keys.specs.declared.Summary.{Summary}
 use Rattle.keys.proofs.Injective.{truth-inj}
@@ -58,9 +58,3 @@ module _ (k : Collation) (e : k ≡ UnicodeCasemap) where
       go : (o : Option (List Character)) → summaryNumbers s ≡ preparedNumbers (unicodePrepared m t o) → s .valid ≡ there o
       go none h = truth-inj (s .valid) false (cc)
       go (some chs) h = truth-inj (s .valid) true (cc)
-
--- an invalid text leaves the buffer
-pub keyed-invalid : (m : Mapping) (t buffer : List ℕ) (o : Option (List Character)) → there o ≡ false
-    → buffer ≡ keyed (unicodePrepared m t o) buffer
-keyed-invalid m t buffer none e = refl
-keyed-invalid m t buffer (some chs) e = absurd (true≢false e)

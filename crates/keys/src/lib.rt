@@ -7,14 +7,14 @@ mod unicode;
 use terms::Collation;
 ghost use mathlib.Core.Path.{_≡_};
 ghost use mathlib.Core.List.{[], _∷_};
-ghost use Prim.Native.Nat.{_*_, _≤_};
+ghost use Prim.Native.Nat.{_≤_};
 ghost use lib.ListN.{length};
-ghost use Rattle.terms.specs.Refusals.{textMost, expansionMost};
+ghost use Rattle.terms.specs.Refusals.{textMost};
 ghost use Rattle.utf8.specs.Utf8.{characters};
 ghost use Rattle.table.specs.Table.{table, mappingOf};
 ghost use Rattle.pages.specs.Pages.{pages};
 ghost use Rattle.decompose.specs.TableCheck.{Usable};
-ghost use Rattle.keys.specs.Keys.{unicodePrepared, prepared, UsableUnder, roomFor, keyed};
+ghost use Rattle.keys.specs.Keys.{unicodePrepared, prepared, UsableUnder, roomFor};
 ghost use Rattle.keys.specs.Summaries.{summaryNumbers, preparedNumbers, placeNumber, shownAt, roomy, KeyFilled};
 
 // Where a key stands: it is the text itself, or stands at the start of the key buffer.
@@ -23,14 +23,16 @@ pub enum KeyPlace {
     Buffer,
 }
 
-// What preparing a text came to.
+// What preparing a text came to. The wide fields come first: an enum that holds a summary is copied by the widths of its other
+// variant, and a wide load waits where one octet was stored.
 pub struct Summary {
-    // Whether the text is valid (always so under collations 1 and 2).
-    pub valid: bool,
+    // The length of the key, in octets.
+    pub key_length: usize,
     // The lookup count.
     pub lookups: u64,
-    // The length of the key, in octets, and where it stands.
-    pub key_length: usize,
+    // Whether the text is valid (always so under collations 1 and 2).
+    pub valid: bool,
+    // Where the key stands.
     pub place: KeyPlace,
 }
 
@@ -66,43 +68,10 @@ fn plain(text_length: usize, place: KeyPlace) -> Summary
     ensures { λ r. ⌜ summaryNumbers r ≡ 1 ∷ 0 ∷ «text_length» ∷ placeNumber place ∷ [] ⌝ }
 {
     Summary {
-        valid: true,
-        lookups: 0,
         key_length: text_length,
+        lookups: 0,
+        valid: true,
         place,
-    }
-}
-
-// Writes the key of a text that was sized, if it belongs in the key buffer.
-pub fn write_key(
-    collation: Collation,
-    text: &[u8],
-    entries: &[u32],
-    pool: &[u32],
-    presence: &[u64],
-    ranks: &[u64],
-    summary: Summary,
-    key: &mut [u8],
-)
-    requires { ⌜ length (now text) ≤ textMost ⌝ }
-    requires { ⌜ UsableUnder collation (table (now entries) (now pool)) (pages (now presence) (now ranks)) ⌝ }
-    requires { ⌜ summaryNumbers summary ≡ preparedNumbers
-        (prepared collation (mappingOf (table (now entries) (now pool))) (now text)) ⌝ }
-    requires { ⌜ roomFor (prepared collation (mappingOf (table (now entries) (now pool))) (now text)) ≤ length (now key) ⌝ }
-    ensures { λ _. ⌜ now (key .exit) ≡ keyed
-        (prepared collation (mappingOf (table (now (entries .entry)) (now (pool .entry)))) (now (text .entry)))
-        (now (key .entry)) ⌝ }
-{
-    match collation {
-        Collation::Octet => {}
-        Collation::AsciiCasemap => {
-            ascii::write_ascii(text, key);
-        }
-        Collation::UnicodeCasemap => {
-            if summary.valid {
-                unicode::write_unicode(text, entries, pool, presence, ranks, key);
-            }
-        }
     }
 }
 
@@ -128,13 +97,7 @@ pub fn fill_key(
             ascii::write_ascii(text, key);
             plain(text.len(), KeyPlace::Buffer)
         }
-        Collation::UnicodeCasemap => {
-            // An invalid text is its own key.
-            if utf8::is_valid(text) {
-                return unicode::write_unicode(text, entries, pool, presence, ranks, key);
-            }
-            unicode::kept(text.len())
-        }
+        Collation::UnicodeCasemap => fill_unicode(text, entries, pool, presence, ranks, key),
     }
 }
 
@@ -148,7 +111,10 @@ pub fn is_roomy(collation: Collation, text_length: usize, room: usize) -> bool
     false
 }
 
-// Prepares a text under collation 3 in one walk that writes, without sizing its key first: the buffer has room for any.
+// Prepares a text under collation 3 in one walk, its key not being sized first: the buffer has room for it.
+//
+// All keys under collation 3 are written below here. Each slice is cut once at the top, whole: so the calls below take it as two
+// numbers, where one that is handed on as it was lent is copied in memory.
 pub fn fill_unicode(
     text: &[u8],
     entries: &[u32],
@@ -159,15 +125,30 @@ pub fn fill_unicode(
 ) -> Summary
     requires { ⌜ length (now text) ≤ textMost ⌝ }
     requires { ⌜ Usable (table (now entries) (now pool)) (pages (now presence) (now ranks)) ⌝ }
-    requires { ⌜ expansionMost * length (now text) ≤ length (now key) ⌝ }
+    requires { ⌜ roomFor
+        (unicodePrepared (mappingOf (table (now entries) (now pool))) (now text) (characters (now text))) ≤ length
+        (now key) ⌝ }
     ensures { λ r. ⌜ KeyFilled (unicodePrepared (mappingOf (table (now (entries .entry)) (now (pool .entry))))
         (now (text .entry)) (characters (now (text .entry)))) (now (key .entry)) r (now (key .exit)) ⌝ }
 {
+    let text_part = &text[0..];
+    let entries_part = &entries[0..];
+    let pool_part = &pool[0..];
+    let presence_part = &presence[0..];
+    let ranks_part = &ranks[0..];
+    let key_part = &mut key[0..];
     // An invalid text leaves the buffer, so the text is read to its end before the first octet is written.
-    if utf8::is_valid(text) {
-        return unicode::write_unicode(text, entries, pool, presence, ranks, key);
+    if utf8::is_valid(text_part) {
+        return unicode::write_unicode(
+            text_part,
+            entries_part,
+            pool_part,
+            presence_part,
+            ranks_part,
+            key_part,
+        );
     }
-    unicode::kept(text.len())
+    unicode::kept(text_part.len())
 }
 
 // The key that a prepared text's summary shows.

@@ -43,9 +43,9 @@ pub fn size_unicode(
         lookups += sized.asks;
     }
     Summary {
-        valid: true,
-        lookups,
         key_length: end.0,
+        lookups,
+        valid: true,
         place: KeyPlace::Buffer,
     }
 }
@@ -87,9 +87,9 @@ pub fn write_unicode(
         lookups += written.asks;
     }
     Summary {
-        valid: true,
-        lookups,
         key_length: end.0,
+        lookups,
+        valid: true,
         place: KeyPlace::Buffer,
     }
 }
@@ -99,9 +99,9 @@ pub fn kept(text_length: usize) -> Summary
     ensures { λ r. ⌜ summaryNumbers r ≡ 0 ∷ 0 ∷ «text_length» ∷ 0 ∷ [] ⌝ }
 {
     Summary {
-        valid: false,
-        lookups: 0,
         key_length: text_length,
+        lookups: 0,
+        valid: false,
         place: KeyPlace::Text,
     }
 }

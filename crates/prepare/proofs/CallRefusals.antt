@@ -186,6 +186,12 @@ module _ (o : Option Collation) (t : Table) (p : Pages) (ls : List Lent) (q : Pa
         let before = orElse-neither (tableCheck o t) (pagesCheck o p) lookup-passed in
         after .1 ∙ sym (before .1)
 
+    -- nor does any number before it
+    pub passed-ready : readyRefusal (call o t q ls) ≡ none
+    passed-ready =
+        rw (orElse-neither (textsRefusal o (lengths (call o t p ls))) (lookupCheck o t p) passed .0)
+        (usable-lookup o t q passed-usable)
+
     -- what the call without the check answers is the whole answer
     pub called-passed : {R : Type 0} {outcome : R → Outcome} {values : Call → Option (List ℕ)} {r : R} {after : List (List ℕ)}
         → values (call o t q ls) ≡ values (call o t p ls)

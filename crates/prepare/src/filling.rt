@@ -2,10 +2,10 @@
 use super::Preparation;
 use super::PreparedPair;
 use crate::checks::check_room;
+use keys::fill_key;
 use keys::fill_unicode;
 use keys::is_roomy;
 use keys::size_key;
-use keys::write_key;
 use terms::Check;
 use terms::Collation;
 ghost use mathlib.Core.Path.{_≡_};
@@ -43,7 +43,7 @@ pub fn fill_one(
 }
 
 // The same, the key being sized before it is written.
-fn fill_one_sized(
+pub fn fill_one_sized(
     collation: Collation,
     text: &[u8],
     entries: &[u32],
@@ -62,16 +62,7 @@ fn fill_one_sized(
     let room = check_room(1, summary, key.len());
     match room {
         Check::Passed => {
-            write_key(
-                collation,
-                text,
-                entries,
-                pool,
-                presence,
-                ranks,
-                summary,
-                key,
-            );
+            fill_key(collation, text, entries, pool, presence, ranks, key);
             Preparation::Prepared(summary)
         }
         Check::Refused(r) => Preparation::Refused(r),
@@ -144,24 +135,14 @@ fn fill_two_sized(
     if let Check::Refused(r) = check_room(2, two, second_key.len()) {
         return PreparedPair::Refused(r);
     }
-    write_key(
-        collation,
-        first,
-        entries,
-        pool,
-        presence,
-        ranks,
-        one,
-        first_key,
-    );
-    write_key(
+    fill_key(collation, first, entries, pool, presence, ranks, first_key);
+    fill_key(
         collation,
         second,
         entries,
         pool,
         presence,
         ranks,
-        two,
         second_key,
     );
     PreparedPair::Both(one, two)

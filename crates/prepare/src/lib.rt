@@ -1,14 +1,15 @@
 // Calls that prepare texts (document 01, "Preparation", "Refusal numbers"): their checks, and the keys left in the key buffers.
 //
-// `prepare` and `shown_key` take any arguments at all: a checked call is its check, which fills the pages, and then its `_accepted`
-// twin, which asks for a table that is accepted already and its pages. The functions of the module filling work where 1 to 7
-// and 15 were passed, and say so: comparing calls stand on `check_call`, `check_texts` and `fill_two`.
+// `prepare` and `shown_key` take any arguments at all: `prepare` is its check, which fills the pages, and then what is left of the
+// call; `prepare_accepted` asks for a table that is accepted already and its pages. The functions of the module filling work
+// where 1 to 7 and 15 were passed, and say so: comparing calls stand on `check_call`, `check_texts` and `fill_two`.
 mod checks;
 mod filling;
 
 pub use checks::check_call;
 pub use checks::check_texts;
 use filling::fill_one;
+use filling::fill_one_sized;
 pub use filling::fill_two;
 use keys::Summary;
 use terms::Collation;
@@ -54,8 +55,9 @@ pub fn prepare(
 {
     let checked = check_call(collation, text.len(), 0, entries, pool, presence, ranks);
     match checked {
-        CallCheck::Passed(_) => prepare_accepted(
-            collation,
+        // Beside the check a second walk is nothing.
+        CallCheck::Passed(known) => fill_one_sized(
+            known,
             text,
             entries,
             pool,

@@ -1,14 +1,12 @@
--- `keys::fill_key` meets its contract: the collation says which case of `prepared` holds, and under collation 3 the text
--- whether it is valid.
+-- `keys::fill_key` meets its contract: the collation says which case of `prepared` holds.
 -- Assumes nothing.
-use mathlib.Core.Path.{refl, sym, _∙_}
+use mathlib.Core.Path.{refl}
 use native.Mathlib.Omega.{arith}
 use lib.ListN.{length-map}
 use borrow.Author.Needs.{needs}
 use Rattle.table.specs.Table.{table, mappingOf}
-use Rattle.utf8.specs.Utf8.{characters}
 use Rattle.keys.specs.Keys.{upper}
-use Rattle.keys.proofs.Collations.{usable-unicode, prepared-unicode, filled-kept}
+use Rattle.keys.proofs.Collations.{usable-unicode, prepared-unicode}
 use Rattle.keys.proofs.fill_key.Statement.{statement}
 use Rattle.keys.proofs.fill_key.Tie as tie
 
@@ -39,46 +37,25 @@ plain-requires-2 c κs = search needs
 enum-told-3 : tie.Need-enum-told-3
 enum-told-3 c = search needs
 
-is-valid-requires : tie.Need-is-valid-requires
-is-valid-requires c κs = search needs
-
--- the text is valid, and there is room
-write-unicode-requires : tie.Need-write-unicode-requires
-write-unicode-requires c κs =
-    let valid = c .before in
-    let told = valid .before .before in
+fill-unicode-requires : tie.Need-fill-unicode-requires
+fill-unicode-requires c κs =
+    let told = c .before in
     let e = told .enum-told3 .given .1 in
     let s = start told in
     let t = table (s .args .entries .now) (s .args .pool .now) in
-    let is = prepared-unicode _ e (mappingOf t) (s .args .text .now) in (
-      s .pre .0,
-      (
-        usable-unicode _ e (s .pre .1 .0),
-        (sym (valid .before .is-valid .ensures) ∙ valid .if1 .taken, rw is at (s .pre .1 .1)),
-      ),
-    )
+    let is = prepared-unicode _ e (mappingOf t) (s .args .text .now) in
+    (s .pre .0, (usable-unicode _ e (s .pre .1 .0), rw is at (s .pre .1 .1)))
+
+-- under collation 1 the text is its own key
+returns : tie.Need-returns
+returns c = rw (c .before .enum-told .given .1) (record { numbers = c .plain .ensures; left = refl })
 
 same-length : tie.Need-same-length
 same-length c = search needs
 
-returns : tie.Need-returns
-returns c =
-    let called = c .before .before in
-    rw (called .before .before .before .before .enum-told3 .given .1) (called .write-unicode .ensures)
-
-kept-requires : tie.Need-kept-requires
-kept-requires c κs = search needs
-
--- under collation 1 the text is its own key
-returns-2 : tie.Need-returns-2
-returns-2 c = rw (c .before .enum-told .given .1) (record { numbers = c .plain .ensures; left = refl })
-
-same-length-2 : tie.Need-same-length-2
-same-length-2 c = search needs
-
 -- under collation 2 it was raised
-returns-3 : tie.Need-returns-3
-returns-3 c =
+returns-2 : tie.Need-returns-2
+returns-2 c =
     let called = c .before .before .before in
     let told = called .before .before in
     rw (told .enum-told2 .given .1)
@@ -88,16 +65,12 @@ returns-3 c =
       left = called .write-ascii .ensures;
     })
 
--- under collation 3 an invalid text is its own key
-returns-4 : tie.Need-returns-4
-returns-4 c =
-    let asked = c .before .before in
-    let told = asked .before in
-    let args = start told .args in
-    rw (told .enum-told3 .given .1)
-    (filled-kept (mappingOf (table (args .entries .now) (args .pool .now))) (args .text .now) (args .key .now)
-    (characters (args .text .now)) (c .kept .result)
-    (sym (asked .is-valid .ensures) ∙ c .before .if1 .left) (c .kept .ensures))
+same-length-2 : tie.Need-same-length-2
+same-length-2 c = search needs
+
+returns-3 : tie.Need-returns-3
+returns-3 c =
+    let called = c .before .before in rw (called .before .before .enum-told3 .given .1) (called .fill-unicode .ensures)
 
 pub fill-key-spec : {M : Type 1} → statement M
 fill-key-spec =
@@ -109,12 +82,9 @@ fill-key-spec =
     write-ascii-requires
     plain-requires-2
     enum-told-3
-    is-valid-requires
-    write-unicode-requires
-    same-length
+    fill-unicode-requires
     returns
-    kept-requires
+    same-length
     returns-2
     same-length-2
-    returns-3
-    returns-4)
+    returns-3)

@@ -1,5 +1,5 @@
--- `prepare::prepare` meets its contract: `check_call` answers the front of the call and fills the pages, and `prepare_accepted`
--- answers the call that passed it.
+-- `prepare::prepare` meets its contract: `check_call` answers the front of the call and fills the pages, and `fill_one_sized`
+-- what is left of it.
 -- Assumes nothing.
 use mathlib.Core.List.{List, [], _∷_}
 use borrow.Author.Needs.{needs}
@@ -8,6 +8,7 @@ use Rattle.table.specs.Table.{Table, table}
 use Rattle.pages.specs.Pages.{Pages, pages}
 use Rattle.prepare.specs.Calls.{Lent, lent}
 use Rattle.prepare.proofs.CallRefusals.{checks-passed, checks-refused, prepares-refused, passed-usable, prepares-passed}
+use Rattle.prepare.proofs.CallRefusals.{passed-ready, prepares-ready}
 use Rattle.prepare.proofs.prepare.Statement.{statement}
 use Rattle.prepare.proofs.prepare.Tie as tie
 
@@ -24,20 +25,23 @@ lents s = lent (s .args .text .now) (s .args .key .now) ∷ []
 check-call-requires : tie.Need-check-call-requires
 check-call-requires c κs = search needs
 
-enum-told : tie.Need-enum-told
-enum-told c = search needs
-
--- the table was accepted, and the pages were filled
-prepare-accepted-requires : tie.Need-prepare-accepted-requires
-prepare-accepted-requires c κs =
-    let told = c .before .before .before in
-    let checked = told .before .before .before .before .before .before .check-call .ensures in
-    let s = told .before .before .before .before .before .before .before .before .before .before .before .before .before .before .before in
-    passed-usable (collationOf (s .args .collation)) (table-at s) (pages-at s) (lents s) _ (checked .paged)
-    (checks-passed (checked .checks) (told .enum-told .given .1) .refusal)
-
 enum-known-checked : tie.Need-enum-known-checked
 enum-known-checked c = search needs
+
+-- the table was accepted, and the pages were filled
+fill-one-sized-requires : tie.Need-fill-one-sized-requires
+fill-one-sized-requires c κs =
+    let told = c .before .before .before .before in
+    let checked = told .before .before .before .before .before .before .check-call .ensures in
+    let s = c .before .before .before .before .before .before .before .before .before .before .before .before .before .before .before .before .before .before .before in
+    let passed = checks-passed (checked .checks) (told .checked .given .1) in (
+      passed .first,
+      passed-usable (collationOf (s .args .collation)) (table-at s) (pages-at s) (lents s) _ (checked .paged) (passed .refusal) _
+          (passed .known),
+    )
+
+enum-known-checked-2 : tie.Need-enum-known-checked-2
+enum-known-checked-2 c = search needs
 
 same-length : tie.Need-same-length
 same-length c = search needs
@@ -50,12 +54,15 @@ same-length-3 c = search needs
 
 returns : tie.Need-returns
 returns c =
-    let told = c .before .before .before .before .before .before in
+    let told = c .before .before .before .before .before .before .before in
     let checked = told .before .before .before .before .before .before .check-call .ensures in
-    let s = told .before .before .before .before .before .before .before .before .before .before .before .before .before .before .before in
-    prepares-passed (collationOf (s .args .collation)) (table-at s) (pages-at s) (lents s) _ (checked .paged)
-    (checks-passed (checked .checks) (told .enum-told .given .1) .refusal)
-    (c .before .before .prepare-accepted .ensures)
+    let s = c .before .before .before .before .before .before .before .before .before .before .before .before .before .before .before .before .before .before .before .before .before .before in
+    let passed = checks-passed (checked .checks) (told .checked .given .1) in
+    let o = collationOf (s .args .collation) in
+    prepares-passed o (table-at s) (pages-at s) (lents s) _ (checked .paged) (passed .refusal)
+    (prepares-ready (passed .known)
+    (passed-ready o (table-at s) (pages-at s) (lents s) _ (checked .paged) (passed .refusal))
+    (c .before .before .fill-one-sized .ensures))
 
 same-length-4 : tie.Need-same-length-4
 same-length-4 c = search needs
@@ -68,7 +75,7 @@ returns-2 : tie.Need-returns-2
 returns-2 c =
     let checked = c .before .before .before .before .before .before .before .check-call .ensures in
     record {
-      prepares = prepares-refused (checks-refused (checked .checks) (c .before .checked .given .1));
+      prepares = prepares-refused (checks-refused (checked .checks) (c .before .checked2 .given .1));
       paged = checked .paged;
     }
 
@@ -77,9 +84,9 @@ prepare-spec =
     tie.close
     (tie.spec
     check-call-requires
-    enum-told
-    prepare-accepted-requires
     enum-known-checked
+    fill-one-sized-requires
+    enum-known-checked-2
     same-length
     same-length-2
     same-length-3

@@ -2,12 +2,13 @@
 -- sized first.
 -- Assumes nothing.
 use mathlib.Core.Path.{sym, _∙_}
+use native.Mathlib.Omega.{arith}
 use lib.ListN.{length}
 use borrow.Author.Needs.{needs}
 use Rattle.table.specs.Table.{table}
 use Rattle.pages.specs.Pages.{pages}
 use Rattle.keys.proofs.Collations.{usable-accepted, usable-unicode}
-use Rattle.keys.proofs.Bounds.{Roomy, roomy-enough}
+use Rattle.keys.proofs.Bounds.{key-most, Roomy, roomy-enough}
 use Rattle.prepare.proofs.Rooms.{filled-written, one-written}
 use Rattle.prepare.proofs.filling.fill_one.Statement.{statement}
 use Rattle.prepare.proofs.filling.fill_one.Tie as tie
@@ -26,10 +27,10 @@ is-roomy-requires c κs = search needs
 fill-unicode-requires : tie.Need-fill-unicode-requires
 fill-unicode-requires c κs =
     let r = c .before in
-    let s = start r in (
-      s .pre .0,
-      (usable-unicode _ (enough r .unicode) (s .pre .1), enough r .enough),
-    )
+    let s = start r in
+    let usable = usable-unicode _ (enough r .unicode) (s .pre .1) in
+    let most = key-most (table (s .args .entries .now) (s .args .pool .now)) (s .args .text .now) (usable .accepted) in
+    (s .pre .0, (usable, omega (arith, most, enough r .enough)))
 
 same-length : tie.Need-same-length
 same-length c = search needs

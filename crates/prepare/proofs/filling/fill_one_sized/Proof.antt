@@ -34,14 +34,14 @@ enum-told : tie.Need-enum-told
 enum-told c = search needs
 
 -- the key was sized and has room
-write-key-requires : tie.Need-write-key-requires
-write-key-requires c κs =
+fill-key-requires : tie.Need-fill-key-requires
+fill-key-requires c κs =
     let sized = c .before .before .before .before in
     let args = start sized .args in
     let p = prepared (args .collation) (mappingOf (table (args .entries .now) (args .pool .now))) (args .text .now) in
     let s = sized .size-key in (
       start sized .pre .0,
-      (start sized .pre .1, (s .ensures, room-enough p (s .result) (s .ensures) 1 (length (args .key .now)) (room (c .before)))),
+      (start sized .pre .1, room-enough p (s .result) (s .ensures) 1 (length (args .key .now)) (room (c .before))),
     )
 
 enum-known-room : tie.Need-enum-known-room
@@ -59,7 +59,7 @@ returns c =
     let s = start sized in
     one-written (usable-accepted (s .args .collation) (table (s .args .entries .now) (s .args .pool .now))
     (pages (s .args .presence .now) (s .args .ranks .now)) (s .pre .1))
-    (record { sized = sized .size-key .ensures; room = room ready; left = called .write-key .ensures })
+    (record { sized = sized .size-key .ensures; room = room ready; left = called .fill-key .ensures .left })
 
 -- too little room
 returns-2 : tie.Need-returns-2
@@ -76,7 +76,7 @@ fill-one-sized-spec =
     size-key-requires
     check-room-requires
     enum-told
-    write-key-requires
+    fill-key-requires
     enum-known-room
     same-length
     returns

@@ -2,13 +2,14 @@
 -- in; else they are sized first.
 -- Assumes nothing.
 use mathlib.Core.Path.{sym, _∙_}
+use native.Mathlib.Omega.{arith}
 use lib.ListN.{length}
 use borrow.Author.Needs.{needs}
 use Rattle.table.specs.Table.{table}
 use Rattle.pages.specs.Pages.{pages}
 use Rattle.decompose.specs.TableCheck.{Usable}
 use Rattle.keys.proofs.Collations.{usable-accepted, usable-unicode}
-use Rattle.keys.proofs.Bounds.{Roomy, roomy-enough}
+use Rattle.keys.proofs.Bounds.{key-most, Roomy, roomy-enough}
 use Rattle.prepare.proofs.Rooms.{filled-written, two-written}
 use Rattle.prepare.proofs.filling.fill_two.Statement.{statement}
 use Rattle.prepare.proofs.filling.fill_two.Tie as tie
@@ -39,11 +40,18 @@ is-roomy-requires-2 c κs = search needs
 
 -- both buffers are roomy
 fill-unicode-requires : tie.Need-fill-unicode-requires
-fill-unicode-requires c κs = let r = c .before in (start r .pre .0, (usable r, first r .enough))
+fill-unicode-requires c κs =
+    let r = c .before in
+    let args = start r .args in
+    let most = key-most (table (args .entries .now) (args .pool .now)) (args .first .now) (usable r .accepted) in
+    (start r .pre .0, (usable r, omega (arith, most, first r .enough)))
 
 fill-unicode-requires-2 : tie.Need-fill-unicode-requires-2
 fill-unicode-requires-2 c κs =
-    let r = c .before .before .before .before .before in (start r .pre .1 .0, (usable r, second r .enough))
+    let r = c .before .before .before .before .before in
+    let args = start r .args in
+    let most = key-most (table (args .entries .now) (args .pool .now)) (args .second .now) (usable r .accepted) in
+    (start r .pre .1 .0, (usable r, omega (arith, most, second r .enough)))
 
 same-length : tie.Need-same-length
 same-length c = search needs

@@ -87,8 +87,8 @@ enum-told-2 : tie.Need-enum-told-2
 enum-told-2 c = search needs
 
 -- the first key was sized and has room
-write-key-requires : tie.Need-write-key-requires
-write-key-requires c κs =
+fill-key-requires : tie.Need-fill-key-requires
+fill-key-requires c κs =
     let told = c .before .before .before .before in
     let sized = told .before .before .before in
     let args = start sized .args in
@@ -97,13 +97,13 @@ write-key-requires c κs =
       start sized .pre .0,
       (
         start sized .pre .1 .1,
-        (one .ensures, room-enough p (one .result) (one .ensures) 1 (length (args .first-key .now)) (room told)),
+        room-enough p (one .result) (one .ensures) 1 (length (args .first-key .now)) (room told),
       ),
     )
 
 -- the second key was sized and has room
-write-key-requires-2 : tie.Need-write-key-requires-2
-write-key-requires-2 c κs =
+fill-key-requires-2 : tie.Need-fill-key-requires-2
+fill-key-requires-2 c κs =
     let told = c .before .before .before .before .before in
     let sized = told .before .before .before .before .before .before in
     let args = start sized .args in
@@ -112,7 +112,7 @@ write-key-requires-2 c κs =
       start sized .pre .1 .0,
       (
         start sized .pre .1 .1,
-        (two .ensures, room-enough p (two .result) (two .ensures) 2 (length (args .second-key .now)) (room-2 told)),
+        room-enough p (two .result) (two .ensures) 2 (length (args .second-key .now)) (room-2 told),
       ),
     )
 
@@ -131,8 +131,8 @@ returns-3 c =
     let told = told2 .before .before .before in
     let sized = told .before .before .before in
     two-written
-    (record { sized = sized .before .size-key .ensures; room = room told; left = called .write-key .ensures })
-    (record { sized = sized .size-key2 .ensures; room = room-2 told2; left = called2 .write-key2 .ensures })
+    (record { sized = sized .before .size-key .ensures; room = room told; left = called .fill-key .ensures .left })
+    (record { sized = sized .size-key2 .ensures; room = room-2 told2; left = called2 .fill-key2 .ensures .left })
 
 pub fill-two-sized-spec : {M : Type 1} → statement M
 fill-two-sized-spec =
@@ -148,8 +148,8 @@ fill-two-sized-spec =
     enum-known-r-2
     returns-2
     enum-told-2
-    write-key-requires
-    write-key-requires-2
+    fill-key-requires
+    fill-key-requires-2
     same-length
     same-length-2
     returns-3)
