@@ -5,13 +5,13 @@ use mathlib.Core.Path.{_≡_, refl, sym, _∙_, ap, subst}
 use mathlib.Core.Bool.{true, true≢false, _&&_, not}
 use mathlib.Core.Option.{Option, none, some}
 use mathlib.Core.List.{List, [], _∷_, _++_}
-use Prim.Native.Nat.{ℕ, zero, suc, _+_, _-_, _<_}
+use Prim.Native.Nat.{ℕ, suc, _+_, _-_, _<_}
 use native.Mathlib.Decide.{decLt}
 use native.Mathlib.Omega.{arith}
 use lib.Dec.{leb}
 use lib.ListN.{length, take, drop, getD, drop-of-length-le}
 use lib.Seq.{drop-cons, drop-append-seam}
-use borrow.Author.Tests.{le-leb, lt-leb, ne-eqb}
+use borrow.Author.Tests.{le-leb, lt-leb}
 use Rattle.terms.specs.Lists.{there}
 use Rattle.terms.proofs.Parts.{drop-part}
 use Rattle.terms.proofs.Tests.{join, none-some}
@@ -67,13 +67,6 @@ sequence-lead a x n least t (leadsFour e h) = let bits : a - 0xF0 ≡ x = omega 
 pub decode-longer : (a x n least : ℕ) (t : List ℕ) → Lead a x n least → decode (a ∷ t) ≡ taken (suc n) least (trailed n x t)
 decode-longer a x n least t lead =
     decode-first a t (some (suc n)) (announced-lead a x n least lead) ∙ sequence-lead a x n least t lead
-
--- no row is for another length
-pub sequence-other : (n a : ℕ) (t : List ℕ) → (n ≡ 1 → ⊥) → (n ≡ 2 → ⊥) → (n ≡ 3 → ⊥) → (n ≡ 4 → ⊥)
-    → sequence (lengthSaid n) a t ≡ none
-sequence-other zero a t one two three four = refl
-sequence-other (suc n) a t one two three four =
-    simp (ne-eqb (suc n) 1 one, ne-eqb (suc n) 2 two, ne-eqb (suc n) 3 three, ne-eqb (suc n) 4 four)
 
 -- ---- what is encoded decodes
 

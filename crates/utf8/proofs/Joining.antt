@@ -51,7 +51,7 @@ module _ {n x : ℕ} {t : List ℕ} {i code : ℕ} (j : Joining n x t i code) wh
       })
 
   -- it doesn't
-  pub joining-stops : i < n → i < length t → trails (getD t i 0) ≡ false → trailed n x t ≡ none
+  joining-stops : i < n → i < length t → trails (getD t i 0) ≡ false → trailed n x t ≡ none
   unfolding trailed
   joining-stops h l p = j .left ∙ rw (one-left h, drop-cons t i 0 l, p)
 

@@ -7,19 +7,12 @@ use mathlib.Core.List.{List}
 use lib.ListN.{length}
 use Rattle.terms.specs.Lists.{over}
 use Rattle.utf8.specs.Utf8.{Character, character, encode}
-use Rattle.utf8.specs.declared.sequences.Reading.{Reading}
-use Rattle.utf8.specs.declared.sequences.Reading.the-variants.{Character as Read, Malformed}
 use Rattle.utf8.specs.declared.DecodedCharacter.{DecodedCharacter}
 
 -- the length that a number says, where 0 says that there is none
 abbrev pub lengthSaid : ℕ → Option ℕ
 lengthSaid zero = none
 lengthSaid (suc n) = some (suc n)
-
--- the character that a reading is, if it is one
-abbrev pub characterRead : Reading → Option Character
-characterRead (Read c w) = some (character (c .0) w)
-characterRead Malformed = none
 
 -- the character that was read where one stands
 abbrev pub characterOf : DecodedCharacter → Character

@@ -1,8 +1,8 @@
 // UTF-8 (RFC 3629): characters out of octets, and code points into octets. Judging a text asks nothing of the caller, reading
 // that a character stands there, writing a code point of at most 10FFFF hex and room.
+mod judging;
 mod sequences;
 
-use crate::sequences::Reading;
 use terms::CodePoint;
 use terms::TextPosition;
 ghost use mathlib.Core.Path.{_≡_};
@@ -51,23 +51,18 @@ pub fn read_valid(text: &[u8], at: TextPosition) -> DecodedCharacter
     }
 }
 
-// Whether a text is UTF-8 from its start to its end.
+// Whether a text is UTF-8 from its start to its end: one shift for each octet, and no branch on what the octet is.
 pub fn is_valid(text: &[u8]) -> bool
     ensures { λ r. ⌜ r ≡ there (characters (now (text .entry))) ⌝ }
 {
+    // Only the low six bits are the state; the other bits of the shifted row fall away with the next shift.
+    let mut state: u64 = 0;
     let mut at = 0;
     while at < text.len() {
-        let reading = sequences::read_character(text, TextPosition(at));
-        match reading {
-            Reading::Character(_, width) => {
-                at += width;
-            }
-            Reading::Malformed => {
-                return false;
-            }
-        }
+        state = judging::row_of(text[at]) >> ((state % 64) as u32);
+        at += 1;
     }
-    true
+    state % 64 == 0
 }
 
 // How many octets a code point takes.

@@ -1,44 +1,12 @@
 // The octet sequences of UTF-8 (RFC 3629, section 3): how long one is by its first octet, and what its octets come to.
-use terms::CodePoint;
-use terms::TextPosition;
 ghost use mathlib.Core.Path.{_≡_};
 ghost use mathlib.Core.Bool.{true};
 ghost use mathlib.Core.Option.{some};
 ghost use Prim.Native.Nat.{_+_, _-_, _*_, _≤_, _<_};
 ghost use lib.Dec.{eqb};
-ghost use lib.ListN.{drop};
 ghost use Rattle.terms.specs.Lists.{there};
-ghost use Rattle.utf8.specs.Utf8.{leadingOnes, announced, decode, trails, trailed, taken};
-ghost use Rattle.utf8.specs.Promises.{lengthSaid, characterRead};
-
-// What stands at a position of a text.
-pub enum Reading {
-    // A character: its code point, and how many octets it takes.
-    Character(CodePoint, usize),
-    // No character begins there: the octets are no UTF-8, or the text is at its end.
-    Malformed,
-}
-
-// The character at a position of a text.
-pub fn read_character(text: &[u8], at: TextPosition) -> Reading
-    ensures { λ r. ⌜ characterRead r ≡ decode (drop (at .0) (now (text .entry))) ⌝ }
-{
-    let i = at.0;
-    if text.len() <= i {
-        return Reading::Malformed;
-    }
-    let first = text[i];
-    let a = first as u32;
-    let rest = &text[i + 1..];
-    let width = sequence_length(first);
-    match width {
-        1 => Reading::Character(CodePoint(a), 1),
-        2 => read_longer(2, 0x80, a - 0xC0, rest),
-        3 => read_longer(3, 0x800, a - 0xE0, rest),
-        4 => read_longer(4, 0x10000, a - 0xF0, rest),
-        _ => Reading::Malformed,
-    }
-}
+ghost use Rattle.utf8.specs.Utf8.{leadingOnes, announced, trailed};
+ghost use Rattle.utf8.specs.Promises.{lengthSaid};
 
 // How many octets the sequence has that an octet begins, by its leading ones (RFC 3629, section 3); 0 where it begins none.
 pub fn sequence_length(first: u8) -> usize
@@ -69,53 +37,6 @@ fn is_ascii(octet: u8) -> bool
     ensures { λ r. ⌜ r ≡ eqb (leadingOnes 8 octet) 0 ⌝ }
 {
     u8::leading_zeros(!octet) == 0
-}
-
-// Whether an octet continues a character.
-fn is_trailing(octet: u32) -> bool
-    ensures { λ r. ⌜ r ≡ trails octet ⌝ }
-{
-    if octet < 0x80 {
-        return false;
-    }
-    octet < 0xC0
-}
-
-// The character of a code point that was read from `width` octets, if it needs that many and is scalar.
-fn accept(width: usize, least: u32, c: u32) -> Reading
-    ensures { λ r. ⌜ characterRead r ≡ taken width least (some c) ⌝ }
-{
-    if c < least {
-        return Reading::Malformed;
-    }
-    if terms::is_scalar(c) {
-        return Reading::Character(CodePoint(c), width);
-    }
-    Reading::Malformed
-}
-
-// The character of `width` octets whose first carries `bits` and whose others `rest` begins with, if it is at least `least`.
-fn read_longer(width: usize, least: u32, bits: u32, rest: &[u8]) -> Reading
-    requires { ⌜ 2 ≤ width ⌝ }
-    requires { ⌜ width ≤ 4 ⌝ }
-    requires { ⌜ bits < 0x20 ⌝ }
-    ensures { λ r. ⌜ characterRead r ≡ taken width least (trailed (width - 1) bits (now (rest .entry))) ⌝ }
-{
-    let count = width - 1;
-    if rest.len() < count {
-        return Reading::Malformed;
-    }
-    let mut code = bits;
-    let mut i = 0;
-    while i < count {
-        let octet = rest[i] as u32;
-        if !is_trailing(octet) {
-            return Reading::Malformed;
-        }
-        code = append_bits(code, octet);
-        i += 1;
-    }
-    accept(width, least, code)
 }
 
 // The number of the bits `bits` and of those of the octets that `rest` begins with, `count` of them, where all trail.
