@@ -4,4 +4,5 @@ pub mod Injective
 pub mod Raising
 pub mod Shown
 pub mod Validity
+pub mod Walking
 pub mod Walks

@@ -15,6 +15,8 @@ use Rattle.keys.specs.Keys.{PreparedText, keyed}
 use Rattle.keys.specs.declared.KeyPlace.{KeyPlace}
 use Rattle.keys.specs.declared.KeyPlace.the-variants.{Text, Buffer}
 use Rattle.keys.specs.declared.Summary.{Summary}
+use Rattle.keys.specs.declared.Trial.{Trial}
+use Rattle.keys.specs.declared.Trial.the-variants.{Filled, Full}
 
 -- ---- numbers
 
@@ -58,6 +60,11 @@ characterCount (some chs) = length chs
 pub record KeyFilled (p : PreparedText) (buffer : List ℕ) (r : Summary) (after : List ℕ) : Type 0 where
   pub numbers : summaryNumbers r ≡ preparedNumbers p
   pub left : after ≡ keyed p buffer
+
+-- a key was written, or given up, whatever the buffer then holds
+abbrev pub TrialFilled : PreparedText → List ℕ → Trial → List ℕ → Type 0
+TrialFilled p buffer (Filled r) after = KeyFilled p buffer r after
+TrialFilled p buffer Full after = length after ≡ length buffer
 
 -- a key buffer has room for any key of a text of n octets: over a table an octet of a text comes to at most 128 of its key
 abbrev pub roomy : Collation → ℕ → ℕ → Bool

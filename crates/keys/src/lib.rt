@@ -3,8 +3,11 @@
 // The functions work on an accepted table, a text within the limit and enough room, and say so; `shown_part` takes anything.
 mod ascii;
 mod unicode;
+mod writing;
 
+use crate::writing::Progress;
 use terms::Collation;
+use terms::TextPosition;
 ghost use mathlib.Core.Path.{_≡_};
 ghost use mathlib.Core.List.{[], _∷_};
 ghost use Prim.Native.Nat.{_≤_};
@@ -16,6 +19,7 @@ ghost use Rattle.pages.specs.Pages.{pages};
 ghost use Rattle.decompose.specs.TableCheck.{Usable};
 ghost use Rattle.keys.specs.Keys.{unicodePrepared, prepared, UsableUnder, roomFor};
 ghost use Rattle.keys.specs.Summaries.{summaryNumbers, preparedNumbers, placeNumber, shownAt, roomy, KeyFilled};
+ghost use Rattle.keys.specs.Summaries.{TrialFilled};
 
 // Where a key stands: it is the text itself, or stands at the start of the key buffer.
 pub enum KeyPlace {
@@ -111,10 +115,77 @@ pub fn is_roomy(collation: Collation, text_length: usize, room: usize) -> bool
     false
 }
 
+// Prepares a short text under collation 3 in one walk, its key not being sized first: the buffer has room for it. What is said
+// holds of a long one too.
+pub fn fill_short(
+    text: &[u8],
+    entries: &[u32],
+    pool: &[u32],
+    presence: &[u64],
+    ranks: &[u64],
+    key: &mut [u8],
+) -> Summary
+    requires { ⌜ length (now text) ≤ textMost ⌝ }
+    requires { ⌜ Usable (table (now entries) (now pool)) (pages (now presence) (now ranks)) ⌝ }
+    requires { ⌜ roomFor
+        (unicodePrepared (mappingOf (table (now entries) (now pool))) (now text) (characters (now text))) ≤ length
+        (now key) ⌝ }
+    ensures { λ r. ⌜ KeyFilled (unicodePrepared (mappingOf (table (now (entries .entry)) (now (pool .entry))))
+        (now (text .entry)) (characters (now (text .entry)))) (now (key .entry)) r (now (key .exit)) ⌝ }
+{
+    // An invalid text leaves the buffer, so the text is read to its end before the first octet is written.
+    if utf8::is_valid(text) {
+        let end = TextPosition(text.len());
+        let written = writing::write_characters(text, end, entries, pool, presence, ranks, key);
+        return buffered(written);
+    }
+    unicode::kept(text.len())
+}
+
+// What preparing a valid text under collation 3 comes to that was written so far, to its end.
+fn buffered(written: Progress) -> Summary
+    ensures { λ r. ⌜ summaryNumbers r ≡ 1 ∷ written .lookups ∷ written .end .0 ∷ 1 ∷ [] ⌝ }
+{
+    Summary {
+        key_length: written.end.0,
+        lookups: written.lookups,
+        valid: true,
+        place: KeyPlace::Buffer,
+    }
+}
+
+// What preparing a text into a buffer came to that need not have room.
+pub enum Trial {
+    Filled(Summary),
+    // The buffer might have been too short, and what it holds is no key.
+    Full,
+}
+
+// Prepares a text under collation 3 into any buffer, in one walk, as long as that has room for any character.
+pub fn try_filling(
+    text: &[u8],
+    entries: &[u32],
+    pool: &[u32],
+    presence: &[u64],
+    ranks: &[u64],
+    key: &mut [u8],
+) -> Trial
+    requires { ⌜ length (now text) ≤ textMost ⌝ }
+    requires { ⌜ Usable (table (now entries) (now pool)) (pages (now presence) (now ranks)) ⌝ }
+    ensures { λ r. ⌜ TrialFilled (unicodePrepared (mappingOf (table (now (entries .entry)) (now (pool .entry))))
+        (now (text .entry)) (characters (now (text .entry)))) (now (key .entry)) r (now (key .exit)) ⌝ }
+{
+    if utf8::is_valid(text) {
+        let written = writing::write_while_roomy(text, entries, pool, presence, ranks, key);
+        if written.at.0 < text.len() {
+            return Trial::Full;
+        }
+        return Trial::Filled(buffered(written));
+    }
+    Trial::Filled(unicode::kept(text.len()))
+}
+
 // Prepares a text under collation 3 in one walk, its key not being sized first: the buffer has room for it.
-//
-// All keys under collation 3 are written below here. Each slice is cut once at the top, whole: so the calls below take it as two
-// numbers, where one that is handed on as it was lent is copied in memory.
 pub fn fill_unicode(
     text: &[u8],
     entries: &[u32],
@@ -131,24 +202,7 @@ pub fn fill_unicode(
     ensures { λ r. ⌜ KeyFilled (unicodePrepared (mappingOf (table (now (entries .entry)) (now (pool .entry))))
         (now (text .entry)) (characters (now (text .entry)))) (now (key .entry)) r (now (key .exit)) ⌝ }
 {
-    let text_part = &text[0..];
-    let entries_part = &entries[0..];
-    let pool_part = &pool[0..];
-    let presence_part = &presence[0..];
-    let ranks_part = &ranks[0..];
-    let key_part = &mut key[0..];
-    // An invalid text leaves the buffer, so the text is read to its end before the first octet is written.
-    if utf8::is_valid(text_part) {
-        return unicode::write_unicode(
-            text_part,
-            entries_part,
-            pool_part,
-            presence_part,
-            ranks_part,
-            key_part,
-        );
-    }
-    unicode::kept(text_part.len())
+    fill_short(text, entries, pool, presence, ranks, key)
 }
 
 // The key that a prepared text's summary shows.

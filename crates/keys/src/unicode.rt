@@ -1,4 +1,4 @@
-// The key of a text under collation 3: the published steps, character by character.
+// The size of a text's key under collation 3, by the published steps, character by character; and what an invalid text comes to.
 use super::KeyPlace;
 use super::Summary;
 use terms::KeyPosition;
@@ -14,8 +14,8 @@ ghost use Rattle.utf8.specs.Utf8.{characters};
 ghost use Rattle.table.specs.Table.{table, mappingOf};
 ghost use Rattle.pages.specs.Pages.{pages};
 ghost use Rattle.decompose.specs.TableCheck.{Usable};
-ghost use Rattle.keys.specs.Keys.{unicodePrepared, roomFor};
-ghost use Rattle.keys.specs.Summaries.{summaryNumbers, preparedNumbers, KeyFilled};
+ghost use Rattle.keys.specs.Keys.{unicodePrepared};
+ghost use Rattle.keys.specs.Summaries.{summaryNumbers, preparedNumbers};
 
 // What preparing a valid text under collation 3 comes to.
 pub fn size_unicode(
@@ -41,50 +41,6 @@ pub fn size_unicode(
         at.0 += character.width;
         end.0 += sized.octets;
         lookups += sized.asks;
-    }
-    Summary {
-        key_length: end.0,
-        lookups,
-        valid: true,
-        place: KeyPlace::Buffer,
-    }
-}
-
-// Writes the key of a valid text under collation 3.
-pub fn write_unicode(
-    text: &[u8],
-    entries: &[u32],
-    pool: &[u32],
-    presence: &[u64],
-    ranks: &[u64],
-    key: &mut [u8],
-) -> Summary
-    requires { ⌜ length (now text) ≤ textMost ⌝ }
-    requires { ⌜ Usable (table (now entries) (now pool)) (pages (now presence) (now ranks)) ⌝ }
-    requires { ⌜ there (characters (now text)) ≡ true ⌝ }
-    requires { ⌜ roomFor
-        (unicodePrepared (mappingOf (table (now entries) (now pool))) (now text) (characters (now text))) ≤ length
-        (now key) ⌝ }
-    ensures { λ r. ⌜ KeyFilled (unicodePrepared (mappingOf (table (now (entries .entry)) (now (pool .entry))))
-        (now (text .entry)) (characters (now (text .entry)))) (now (key .entry)) r (now (key .exit)) ⌝ }
-{
-    let mut at = TextPosition(0);
-    let mut end = KeyPosition(0);
-    let mut lookups: u64 = 0;
-    while at.0 < text.len() {
-        let character = utf8::read_valid(text, at);
-        let free = end.0;
-        let written = decompose::write_expansion(
-            character.code,
-            entries,
-            pool,
-            presence,
-            ranks,
-            &mut key[free..],
-        );
-        at.0 += character.width;
-        end.0 += written.octets;
-        lookups += written.asks;
     }
     Summary {
         key_length: end.0,
