@@ -9,6 +9,7 @@ pub mod Syllables
 pub mod Unfolding
 pub mod Walk
 pub mod Expansion
+pub mod PlainRows
 pub mod Demand3
 pub mod SyllableSteps
 pub mod Unreached

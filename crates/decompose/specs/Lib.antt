@@ -2,3 +2,4 @@ pub mod Levels
 pub mod Steps
 pub mod TableCheck
 pub mod Promises
+pub mod Plain

@@ -1,12 +1,14 @@
-// Decomposition over a mapping table (document 01, "The mapping table"): the table check, and the size and the octets of one
-// code point's expansion.
+// Decomposition over a mapping table (document 01, "The mapping table"): the table check, the size and the octets of one code
+// point's expansion, and a row of what ASCII becomes.
 //
 // `check_table` takes any two slices. Its work is bounded on any table: an entry's code point is unfolded until it has taken 32
 // code points or 8 levels, and every code point that is looked up either takes one of the 32 or is split into ones that do;
 // so on each of the levels 0 to 8 at most 33 are looked up, some 300 in all. So are 67 jamo, which decide for all syllables.
-// The functions on one expansion ask for an accepted table and its pages.
+// The functions on one expansion and the row ask for an accepted table and its pages.
 mod depth;
+mod plain;
 
+pub use plain::plain_row;
 use table::Place;
 use table::layout;
 use terms::Check;
