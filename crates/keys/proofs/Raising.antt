@@ -12,7 +12,7 @@ use Rattle.terms.proofs.Parts.{length-over}
 use Rattle.keys.specs.Keys.{upper}
 
 -- one octet more at the end of what was written
-set-over : (xs buffer : List ℕ) (a : ℕ) → length xs < length buffer
+pub set-over : (xs buffer : List ℕ) (a : ℕ) → length xs < length buffer
     → set (over xs buffer) (length xs) a ≡ over (xs ++ a ∷ []) buffer
 set-over xs [] a h = absurd (omega arith)
 set-over [] (y ∷ ys) a h = refl

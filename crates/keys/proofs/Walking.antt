@@ -1,18 +1,18 @@
 -- The laws of a walk over a text in UTF-8 (`Walking`): start, the room for one more, one more, two walks joined, done.
 -- Assumes nothing.
-use mathlib.Core.Path.{_≡_, sym, _∙_}
+use mathlib.Core.Path.{_≡_, sym, ap, _∙_}
 use mathlib.Core.Bool.{true}
 use mathlib.Core.List.{List, [], _∷_, _++_}
 use mathlib.Core.Logic.{_⊎_, inl, inr}
 use mathlib.Core.Option.{some}
 use Prim.Native.Nat.{ℕ, _+_, _≤_, _<_}
 use native.Mathlib.Omega.{arith}
-use lib.ListN.{length, take, drop}
-use Rattle.terms.specs.Lists.{there}
+use lib.ListN.{length, take, drop, set}
+use Rattle.terms.specs.Lists.{there, over}
 use Rattle.table.specs.Mapping.{Mapping}
-use Rattle.utf8.specs.Utf8.{Character, decode, characters}
+use Rattle.utf8.specs.Utf8.{Character, character, decode, characters}
 use Rattle.utf8.proofs.Characters.{utf8-decodes}
-use Rattle.decompose.specs.Steps.{expanded}
+use Rattle.decompose.specs.Steps.{expanded, lookups}
 use Rattle.decompose.specs.TableCheck.{unfolds}
 use Rattle.decompose.specs.Promises.{ExpansionFilled}
 use Rattle.decompose.specs.declared.Unfolded.{Unfolded}
@@ -22,7 +22,8 @@ use Rattle.keys.specs.Summaries.{summaryNumbers, KeyFilled}
 use Rattle.keys.specs.Walks.{Walking, RoomTo}
 use Rattle.keys.specs.declared.Summary.{Summary}
 use Rattle.keys.proofs.Walks.{sizing-start, sizing-more, sizing-join, sizing-done, writing-start, writing-more}
-use Rattle.keys.proofs.Walks.{writing-join, writing-done, writing-room}
+use Rattle.keys.proofs.Raising.{set-over}
+use Rattle.keys.proofs.Walks.{writing-next, writing-join, writing-done, writing-room}
 
 -- before the first character
 pub walking-start : (m : Mapping) (t buffer : List ℕ) → there (characters t) ≡ true → Walking m t buffer 0 0 0 buffer
@@ -45,6 +46,29 @@ module _ {m : Mapping} {t buffer : List ℕ} {at end k : ℕ} {after : List ℕ}
       sized = sizing-more utf8-decodes (w .sized) ok ch r e (filled .counted);
       written = writing-more utf8-decodes (w .written) ch r last e filled room;
     }
+
+    -- one octet of ASCII more that becomes one octet
+    pub walking-plain : (a o : ℕ) → decode (drop at t) ≡ some (character a 1) → end < length buffer
+        → expanded m a ≡ o ∷ [] → lookups m a ≡ 2
+        → Walking m t buffer (at + 1) (end + 1) (k + 2) (set after end o)
+    walking-plain a o e room single asked =
+        let octets = w .written .octets in
+        let one : 1 ≡ length (expanded m a) = sym (ap length single) in
+        let stored : set after end o ≡ over (octets ++ expanded m a) buffer =
+        rw (single, w .written .written, w .written .count) (set-over octets buffer o (omega (arith, room, w .written .count))) in
+        record {
+          sized = sizing-more utf8-decodes (w .sized) ok (character a 1) (record { octets = 1; asks = 2 }) e
+              (record { octets = one; asked = sym asked });
+          written = writing-next utf8-decodes (w .written) (character a 1) 1 (set after end o) e one (omega (arith, room)) stored;
+        }
+
+  -- where nothing was written, the buffer is as it was
+  pub walking-still : end ≡ 0 → after ≡ buffer
+  walking-still e = still (w .written .octets) (sym (w .written .count) ∙ e) (w .written .written)
+    where
+      still : (octets : List ℕ) → length octets ≡ 0 → after ≡ over octets buffer → after ≡ buffer
+      still [] h s = s
+      still (x ∷ xs) h s = absurd (omega (arith, h))
 
   -- a walk over what follows, into what follows the octets so far, joined to this one
   pub walking-join : {to more l : ℕ} {last : List ℕ} → Walking m (drop at t) (drop end after) to more l last

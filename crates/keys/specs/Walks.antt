@@ -14,6 +14,8 @@ use Rattle.table.specs.Mapping.{Mapping}
 use Rattle.utf8.specs.Characters.{Character, Decoder, charactersBy}
 use Rattle.utf8.specs.Utf8.{decode}
 use Rattle.decompose.specs.Steps.{stepsKey, stepsLookups}
+use Rattle.decompose.specs.Plain.{PlainRow}
+use Rattle.decompose.specs.TableCheck.{unfolds}
 use Rattle.keys.specs.Keys.{unicodePrepared, roomFor}
 use Rattle.keys.specs.Summaries.{preparedNumbers}
 use Rattle.keys.specs.declared.writing.Progress.{Progress}
@@ -67,3 +69,9 @@ Walked m t buffer r after = Walking m t buffer (r .at .0) (r .end .0) (r .lookup
 pub record WalkedTo (m : Mapping) (t : List ℕ) (stop : ℕ) (buffer : List ℕ) (r : Progress) (after : List ℕ) : Type 0 where
   pub walked : Walked m t buffer r after
   pub reached : stop ≤ r .at .0
+
+-- n octets that a text begins with were written by the row of what octets become: over every table of which the row tells, and in
+-- which every code point unfolds, the walk came as far as this, for two lookups each
+pub record PlainWalked (row t buffer : List ℕ) (n : ℕ) (after : List ℕ) : Type 0 where
+  pub walked : (m : Mapping) → PlainRow m row → ((c : ℕ) → unfolds m c ≡ true) → there (charactersBy decode t) ≡ true
+      → Walking m t buffer n n (2 * n) after

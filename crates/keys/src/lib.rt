@@ -2,6 +2,7 @@
 //
 // The functions work on an accepted table, a text within the limit and enough room, and say so; `shown_part` takes anything.
 mod ascii;
+mod long;
 mod unicode;
 mod writing;
 
@@ -20,6 +21,9 @@ ghost use Rattle.decompose.specs.TableCheck.{Usable};
 ghost use Rattle.keys.specs.Keys.{unicodePrepared, prepared, UsableUnder, roomFor};
 ghost use Rattle.keys.specs.Summaries.{summaryNumbers, preparedNumbers, placeNumber, shownAt, roomy, KeyFilled};
 ghost use Rattle.keys.specs.Summaries.{TrialFilled};
+
+// From so many octets on it pays to ask the table for all of ASCII first.
+pub const LONG_TEXT: usize = 512;
 
 // Where a key stands: it is the text itself, or stands at the start of the key buffer.
 pub enum KeyPlace {
@@ -202,7 +206,15 @@ pub fn fill_unicode(
     ensures { λ r. ⌜ KeyFilled (unicodePrepared (mappingOf (table (now (entries .entry)) (now (pool .entry))))
         (now (text .entry)) (characters (now (text .entry)))) (now (key .entry)) r (now (key .exit)) ⌝ }
 {
-    fill_short(text, entries, pool, presence, ranks, key)
+    if text.len() < LONG_TEXT {
+        return fill_short(text, entries, pool, presence, ranks, key);
+    }
+    if utf8::is_valid(text) {
+        let row = decompose::plain_row(entries, pool, presence, ranks);
+        let written = long::write_by_row(&row, text, entries, pool, presence, ranks, key);
+        return buffered(written);
+    }
+    unicode::kept(text.len())
 }
 
 // The key that a prepared text's summary shows.

@@ -145,7 +145,7 @@ pub fn write_while_roomy(
 }
 
 // The lesser of two numbers.
-fn lesser(a: usize, b: usize) -> usize
+pub fn lesser(a: usize, b: usize) -> usize
     ensures { λ r. ⌜ (r ≤ a) × (r ≤ b) × ((r ≡ a) ⊎ (r ≡ b)) ⌝ }
 {
     if a < b {
