@@ -1,11 +1,27 @@
 // The automaton that judges a text octet by octet (RFC 3629, section 4), as a row of bits for each octet. A state is a place in
 // a row, so that a row shifted by a state begins with the next one.
 ghost use mathlib.Core.Path.{_≡_};
+ghost use Rattle.terms.specs.Lists.{there};
+ghost use Rattle.utf8.specs.Utf8.{characters};
 ghost use Rattle.utf8.specs.Judging.{rowOf};
+
+// Whether a text is UTF-8 from its start to its end: one shift for each octet, and no branch on what the octet is.
+pub fn judge(text: &[u8]) -> bool
+    ensures { λ r. ⌜ r ≡ there (characters (now (text .entry))) ⌝ }
+{
+    // Only the low six bits are the state; the other bits of the shifted row fall away with the next shift.
+    let mut state: u64 = 0;
+    let mut at = 0;
+    while at < text.len() {
+        state = row_of(text[at]) >> ((state % 64) as u32);
+        at += 1;
+    }
+    state % 64 == 0
+}
 
 // The row of an octet: at the place of each state, six bits with the place of the state that the octet leads to. All arms are
 // constants, one for each octet, so that the match compiles to one load.
-pub fn row_of(octet: u8) -> u64
+fn row_of(octet: u8) -> u64
     ensures { λ r. ⌜ r ≡ rowOf octet ⌝ }
 {
     match octet {

@@ -51,18 +51,13 @@ pub fn read_valid(text: &[u8], at: TextPosition) -> DecodedCharacter
     }
 }
 
-// Whether a text is UTF-8 from its start to its end: one shift for each octet, and no branch on what the octet is.
+// Whether a text is UTF-8 from its start to its end.
 pub fn is_valid(text: &[u8]) -> bool
     ensures { λ r. ⌜ r ≡ there (characters (now (text .entry))) ⌝ }
 {
-    // Only the low six bits are the state; the other bits of the shifted row fall away with the next shift.
-    let mut state: u64 = 0;
-    let mut at = 0;
-    while at < text.len() {
-        state = judging::row_of(text[at]) >> ((state % 64) as u32);
-        at += 1;
-    }
-    state % 64 == 0
+    // Cut whole, the slice is handed on as two numbers.
+    let part = &text[0..];
+    judging::judge(part)
 }
 
 // How many octets a code point takes.
