@@ -1,4 +1,5 @@
 pub mod Answering
+pub mod Beside
 pub mod CallRefusals
 pub mod Injective
 pub mod Paging

@@ -41,7 +41,7 @@ needed Buffer true n len e h = h
 needed Buffer false n len e h = cc
 
 module _ (p : PreparedText) (s : Summary) (sized : summaryNumbers s ≡ preparedNumbers p) where
-  needed-roomFor : neededAt (s .place) (s .«key_length») ≡ roomFor p
+  pub needed-roomFor : neededAt (s .place) (s .«key_length») ≡ roomFor p
   needed-roomFor = needed (s .place) (p .buffered) (s .«key_length») (length (p .key)) (cc) (cc)
 
   -- 8 by a summary's numbers is 8

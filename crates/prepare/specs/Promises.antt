@@ -1,10 +1,12 @@
--- What the contracts of the checks say with the definitions of the other files.
+-- What the contracts of the checks and of the filling say with the definitions of the other files.
 -- Assumes nothing.
 use mathlib.Core.Path.{_≡_}
 use Prim.Native.Nat.{ℕ}
+use mathlib.Core.Bool.{Bool, _&&_}
 use mathlib.Core.Option.{Option, none, some}
 use mathlib.Core.List.{[], _∷_}
-use lib.Dec.{ltb}
+use lib.Dec.{leb, ltb}
+use Rattle.terms.specs.Collations.{readsTable}
 use Rattle.terms.specs.Refusals.{check, checkRefusal}
 use Rattle.terms.specs.declared.Check.{Check}
 use Rattle.terms.specs.declared.Collation.{Collation}
@@ -51,3 +53,11 @@ neededAt Buffer n = n
 -- 8 by a summary's numbers
 abbrev pub roomNeeded : ℕ → ℕ → Summary → Option Refusal
 roomNeeded place room s = check (ltb room (neededAt (s .place) (s .«key_length»))) 8 place (neededAt (s .place) (s .«key_length»))
+
+-- the most octets of a text that is brief
+abbrev pub briefMost : ℕ
+briefMost = 64
+
+-- a text of n octets is brief, under a collation that reads the table
+abbrev pub brief : Collation → ℕ → Bool
+brief k n = readsTable k && leb n briefMost

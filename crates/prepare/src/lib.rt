@@ -9,7 +9,7 @@ mod filling;
 pub use checks::check_call;
 pub use checks::check_texts;
 use filling::fill_one;
-use filling::fill_one_sized;
+use filling::fill_one_apart;
 pub use filling::fill_two;
 use keys::Summary;
 use terms::Collation;
@@ -55,8 +55,8 @@ pub fn prepare(
 {
     let checked = check_call(collation, text.len(), 0, entries, pool, presence, ranks);
     match checked {
-        // Beside the check a second walk is nothing.
-        CallCheck::Passed(known) => fill_one_sized(
+        // Beside the check the quick way saves nothing.
+        CallCheck::Passed(known) => fill_one_apart(
             known,
             text,
             entries,

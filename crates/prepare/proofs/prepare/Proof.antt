@@ -1,4 +1,4 @@
--- `prepare::prepare` meets its contract: `check_call` answers the front of the call and fills the pages, and `fill_one_sized`
+-- `prepare::prepare` meets its contract: `check_call` answers the front of the call and fills the pages, and `fill_one_apart`
 -- what is left of it.
 -- Assumes nothing.
 use mathlib.Core.List.{List, [], _∷_}
@@ -29,8 +29,8 @@ enum-known-checked : tie.Need-enum-known-checked
 enum-known-checked c = search needs
 
 -- the table was accepted, and the pages were filled
-fill-one-sized-requires : tie.Need-fill-one-sized-requires
-fill-one-sized-requires c κs =
+fill-one-apart-requires : tie.Need-fill-one-apart-requires
+fill-one-apart-requires c κs =
     let told = c .before .before .before .before in
     let checked = told .before .before .before .before .before .before .check-call .ensures in
     let s = c .before .before .before .before .before .before .before .before .before .before .before .before .before .before .before .before .before .before .before in
@@ -62,7 +62,7 @@ returns c =
     prepares-passed o (table-at s) (pages-at s) (lents s) _ (checked .paged) (passed .refusal)
     (prepares-ready (passed .known)
     (passed-ready o (table-at s) (pages-at s) (lents s) _ (checked .paged) (passed .refusal))
-    (c .before .before .fill-one-sized .ensures))
+    (c .before .before .fill-one-apart .ensures))
 
 same-length-4 : tie.Need-same-length-4
 same-length-4 c = search needs
@@ -85,7 +85,7 @@ prepare-spec =
     (tie.spec
     check-call-requires
     enum-known-checked
-    fill-one-sized-requires
+    fill-one-apart-requires
     enum-known-checked-2
     same-length
     same-length-2

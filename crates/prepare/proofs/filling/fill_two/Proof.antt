@@ -39,15 +39,15 @@ is-roomy-requires-2 : tie.Need-is-roomy-requires-2
 is-roomy-requires-2 c κs = search needs
 
 -- both buffers are roomy
-fill-unicode-requires : tie.Need-fill-unicode-requires
-fill-unicode-requires c κs =
+fill-short-requires : tie.Need-fill-short-requires
+fill-short-requires c κs =
     let r = c .before in
     let args = start r .args in
     let most = key-most (table (args .entries .now) (args .pool .now)) (args .first .now) (usable r .accepted) in
     (start r .pre .0, (usable r, omega (arith, most, first r .enough)))
 
-fill-unicode-requires-2 : tie.Need-fill-unicode-requires-2
-fill-unicode-requires-2 c κs =
+fill-short-requires-2 : tie.Need-fill-short-requires-2
+fill-short-requires-2 c κs =
     let r = c .before .before .before .before .before in
     let args = start r .args in
     let most = key-most (table (args .entries .now) (args .pool .now)) (args .second .now) (usable r .accepted) in
@@ -67,8 +67,8 @@ returns c =
     let accepted = usable-accepted (s .args .collation) (table (s .args .entries .now) (s .args .pool .now))
     (pages (s .args .presence .now) (s .args .ranks .now)) (s .pre .1 .1) in
     two-written
-    (filled-written accepted (first r) (c .before .before .before .before .before .before .fill-unicode .ensures))
-    (filled-written accepted (second r) (c .before .before .fill-unicode2 .ensures))
+    (filled-written accepted (first r) (c .before .before .before .before .before .before .fill-short .ensures))
+    (filled-written accepted (second r) (c .before .before .fill-short2 .ensures))
 
 fill-two-sized-requires : tie.Need-fill-two-sized-requires
 fill-two-sized-requires c κs = search needs
@@ -88,8 +88,8 @@ fill-two-spec =
     (tie.spec
     is-roomy-requires
     is-roomy-requires-2
-    fill-unicode-requires
-    fill-unicode-requires-2
+    fill-short-requires
+    fill-short-requires-2
     same-length
     same-length-2
     returns

@@ -1,4 +1,4 @@
--- `prepare::filling::fill_one_sized` meets its contract: what `check_room` answers of the size is 8, and where it is ready
+-- `prepare::filling::fill_sized` meets its contract: what `check_room` answers of the size is 8, and where it is ready
 -- the key is written.
 -- Assumes nothing.
 use mathlib.Core.Path.{_≡_, sym, ap, _∙_}
@@ -12,8 +12,8 @@ use Rattle.keys.proofs.Collations.{usable-accepted}
 use Rattle.terms.specs.Refusals.{checkRefusal}
 use Rattle.prepare.specs.Promises.{roomNeeded}
 use Rattle.prepare.proofs.Rooms.{room-enough, one-written, one-refused}
-use Rattle.prepare.proofs.filling.fill_one_sized.Statement.{statement}
-use Rattle.prepare.proofs.filling.fill_one_sized.Tie as tie
+use Rattle.prepare.proofs.filling.fill_sized.Statement.{statement}
+use Rattle.prepare.proofs.filling.fill_sized.Tie as tie
 
 -- the function's entry, seen from past the sizing
 abbrev start : tie.After-size-key → tie.Start
@@ -69,8 +69,8 @@ returns-2 c =
     let s = checked .before .size-key in
     one-refused (s .result) _ (s .ensures) (sym (checked .check-room .ensures) ∙ ap checkRefusal (known .room .given .1))
 
-pub fill-one-sized-spec : {M : Type 1} → statement M
-fill-one-sized-spec =
+pub fill-sized-spec : {M : Type 1} → statement M
+fill-sized-spec =
     tie.close
     (tie.spec
     size-key-requires
