@@ -50,7 +50,8 @@ pub fn equal(
     second_key: &mut [u8],
 ) -> Equality
     ensures { λ r. ⌜ CalledPaging equalityOutcome equalityValues (twoCall (collationOf collation) (now (first .entry))
-        (now (second .entry)) (now (entries .entry)) (now (pool .entry)) (now (presence .entry)) (now (ranks .entry)) (now («first_key» .entry))
+        (now (second .entry)) (now (entries .entry)) (now (pool .entry)) (now (presence .entry)) (now (ranks .entry))
+        (now («first_key» .entry))
         (now («second_key» .entry))) r (now («first_key» .exit) ∷ now («second_key» .exit) ∷ [])
         (pages (now (presence .exit)) (now (ranks .exit))) ⌝ }
 {
@@ -82,7 +83,8 @@ pub fn equal_accepted(
 ) -> Equality
     requires { ⌜ UsableBy (collationOf collation) (table (now entries) (now pool)) (pages (now presence) (now ranks)) ⌝ }
     ensures { λ r. ⌜ Called equalityOutcome equalityValues (twoCall (collationOf collation) (now (first .entry))
-        (now (second .entry)) (now (entries .entry)) (now (pool .entry)) (now (presence .entry)) (now (ranks .entry)) (now («first_key» .entry))
+        (now (second .entry)) (now (entries .entry)) (now (pool .entry)) (now (presence .entry)) (now (ranks .entry))
+        (now («first_key» .entry))
         (now («second_key» .entry))) r (now («first_key» .exit) ∷ now («second_key» .exit) ∷ []) ⌝ }
 {
     let ordered = order_accepted(
@@ -112,7 +114,8 @@ pub fn order(
     second_key: &mut [u8],
 ) -> Ordered
     ensures { λ r. ⌜ CalledPaging orderOutcome orderValues (twoCall (collationOf collation) (now (first .entry))
-        (now (second .entry)) (now (entries .entry)) (now (pool .entry)) (now (presence .entry)) (now (ranks .entry)) (now («first_key» .entry))
+        (now (second .entry)) (now (entries .entry)) (now (pool .entry)) (now (presence .entry)) (now (ranks .entry))
+        (now («first_key» .entry))
         (now («second_key» .entry))) r (now («first_key» .exit) ∷ now («second_key» .exit) ∷ [])
         (pages (now (presence .exit)) (now (ranks .exit))) ⌝ }
 {
@@ -155,7 +158,8 @@ pub fn order_accepted(
 ) -> Ordered
     requires { ⌜ UsableBy (collationOf collation) (table (now entries) (now pool)) (pages (now presence) (now ranks)) ⌝ }
     ensures { λ r. ⌜ Called orderOutcome orderValues (twoCall (collationOf collation) (now (first .entry))
-        (now (second .entry)) (now (entries .entry)) (now (pool .entry)) (now (presence .entry)) (now (ranks .entry)) (now («first_key» .entry))
+        (now (second .entry)) (now (entries .entry)) (now (pool .entry)) (now (presence .entry)) (now (ranks .entry))
+        (now («first_key» .entry))
         (now («second_key» .entry))) r (now («first_key» .exit) ∷ now («second_key» .exit) ∷ []) ⌝ }
 {
     let texts = prepare::check_texts(collation, first.len(), second.len());
@@ -191,7 +195,8 @@ fn order_ready(
     requires { ⌜ length (now second) ≤ textMost ⌝ }
     requires { ⌜ UsableUnder collation (table (now entries) (now pool)) (pages (now presence) (now ranks)) ⌝ }
     ensures { λ r. ⌜ CalledReady orderOutcome orderValues (twoCall (some collation) (now (first .entry)) (now (second .entry))
-        (now (entries .entry)) (now (pool .entry)) (now (presence .entry)) (now (ranks .entry)) (now («first_key» .entry)) (now («second_key» .entry))) r (now
+        (now (entries .entry)) (now (pool .entry)) (now (presence .entry)) (now (ranks .entry)) (now («first_key» .entry))
+        (now («second_key» .entry))) r (now
         («first_key» .exit) ∷ now («second_key» .exit) ∷ []) ⌝ }
 {
     let pair = prepare::fill_two(

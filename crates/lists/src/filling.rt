@@ -42,7 +42,9 @@ pub fn fill_lists(
     requires { ⌜ UsableUnder collation (table (now entries) (now pool)) (pages (now presence) (now ranks)) ⌝ }
     requires { ⌜ Listed (now first) one ⌝ }
     requires { ⌜ Listed (now second) two ⌝ }
-    ensures { λ r. ⌜ (let c = listsCall (some collation) (now (first .entry)) (now (second .entry)) (now (entries .entry)) (now (pool .entry)) (now (presence .entry)) (now (ranks .entry)) (now (store .entry)) (now (partners .entry)) (now (positions .entry)) in
+    ensures { λ r. ⌜ (let c = listsCall (some collation) (now (first .entry)) (now (second .entry)) (now (entries .entry))
+        (now (pool .entry)) (now (presence .entry)) (now (ranks .entry)) (now (store .entry)) (now (partners .entry))
+        (now (positions .entry)) in
         Shares (roomsRefusal c) c r (now (store .exit) ∷ now (partners .exit) ∷ now (positions .exit) ∷ [])) ⌝ }
 {
     let octets = one.octets + two.octets;
@@ -108,7 +110,8 @@ fn report(
     requires { ⌜ «first_names» ≤ length (now positions) ⌝ }
     ensures { λ r. ⌜ (let m = mappingOf (table (now (entries .entry)) (now (pool .entry))) in
         Reports (map (keyOf collation m) (namesIn (now (first .entry))))
-        (map (keyOf collation m) (namesIn (now (second .entry)))) (now (store .entry)) (now (partners .entry)) (now (positions .entry)) r (now (store .exit)) (now (partners .exit))
+        (map (keyOf collation m) (namesIn (now (second .entry)))) (now (store .entry)) (now (partners .entry))
+        (now (positions .entry)) r (now (store .exit)) (now (partners .exit))
         (now (positions .exit))) ⌝ }
 {
     let mut ends = [0usize; BOTH_MOST];

@@ -52,7 +52,8 @@ pub fn find_shared(
     positions: &mut [u32],
 ) -> Shared
     ensures { λ r. ⌜ (let c = listsCall (collationOf collation) (now (first .entry)) (now (second .entry))
-        (now (entries .entry)) (now (pool .entry)) (now (presence .entry)) (now (ranks .entry)) (now (store .entry)) (now (partners .entry)) (now (positions .entry)) in
+        (now (entries .entry)) (now (pool .entry)) (now (presence .entry)) (now (ranks .entry)) (now (store .entry))
+        (now (partners .entry)) (now (positions .entry)) in
         SharesPaging c r (now (store .exit) ∷ now (partners .exit) ∷ now (positions .exit) ∷ [])
         (pages (now (presence .exit)) (now (ranks .exit)))) ⌝ }
 {
@@ -98,7 +99,8 @@ pub fn find_shared_accepted(
 ) -> Shared
     requires { ⌜ UsableBy (collationOf collation) (table (now entries) (now pool)) (pages (now presence) (now ranks)) ⌝ }
     ensures { λ r. ⌜ (let c = listsCall (collationOf collation) (now (first .entry)) (now (second .entry))
-        (now (entries .entry)) (now (pool .entry)) (now (presence .entry)) (now (ranks .entry)) (now (store .entry)) (now (partners .entry)) (now (positions .entry)) in
+        (now (entries .entry)) (now (pool .entry)) (now (presence .entry)) (now (ranks .entry)) (now (store .entry))
+        (now (partners .entry)) (now (positions .entry)) in
         Shares (listsRefusal c) c r (now (store .exit) ∷ now (partners .exit) ∷ now (positions .exit) ∷ [])) ⌝ }
 {
     let checked = check_lists(collation, first, second);

@@ -37,7 +37,8 @@ pub fn fill_many(
     requires { ⌜ UsableUnder collation (table (now entries) (now pool)) (pages (now presence) (now ranks)) ⌝ }
     requires { ⌜ Texts (now octets) (now ends) ⌝ }
     ensures { λ r. ⌜ (let c = manyCall (some collation) (now (octets .entry)) (now (ends .entry))
-        (now (entries .entry)) (now (pool .entry)) (now (presence .entry)) (now (ranks .entry)) (now (store .entry)) (now («key_ends» .entry)) (now (valid .entry)) in
+        (now (entries .entry)) (now (pool .entry)) (now (presence .entry)) (now (ranks .entry)) (now (store .entry))
+        (now («key_ends» .entry)) (now (valid .entry)) in
         PreparesMany (roomsRefusal c) c r (now (store .exit) ∷ now («key_ends» .exit) ∷ now (valid .exit) ∷ [])) ⌝ }
 {
     if let Check::Refused(r) = check_store(

@@ -38,7 +38,8 @@ pub fn prepare_many(
     valid: &mut [u8],
 ) -> Batch
     ensures { λ r. ⌜ (let c = manyCall (collationOf collation) (now (octets .entry)) (now (ends .entry))
-        (now (entries .entry)) (now (pool .entry)) (now (presence .entry)) (now (ranks .entry)) (now (store .entry)) (now («key_ends» .entry)) (now (valid .entry)) in
+        (now (entries .entry)) (now (pool .entry)) (now (presence .entry)) (now (ranks .entry)) (now (store .entry))
+        (now («key_ends» .entry)) (now (valid .entry)) in
         PreparesManyPaging c r (now (store .exit) ∷ now («key_ends» .exit) ∷ now (valid .exit) ∷ [])
         (pages (now (presence .exit)) (now (ranks .exit)))) ⌝ }
 {

@@ -30,7 +30,8 @@ pub extern "C" fn mz_find_shared(
     answer: &mut [u64; 7],
 )
     ensures { λ _. ⌜ SharesRowPaging (listsCall (collationOf collation) (now (first .entry)) (now (second .entry))
-        (now (entries .entry)) (now (pool .entry)) (now (presence .entry)) (now (ranks .entry)) (now (store .entry)) (now (partners .entry)) (now (positions .entry)))
+        (now (entries .entry)) (now (pool .entry)) (now (presence .entry)) (now (ranks .entry)) (now (store .entry))
+        (now (partners .entry)) (now (positions .entry)))
         (now (answer .exit)) (now (store .exit) ∷ now (partners .exit) ∷ now (positions .exit) ∷ [])
         (pages (now (presence .exit)) (now (ranks .exit))) ⌝ }
 {
@@ -66,7 +67,8 @@ pub extern "C" fn mz_find_shared_accepted(
 )
     requires { ⌜ UsableBy (collationOf collation) (table (now entries) (now pool)) (pages (now presence) (now ranks)) ⌝ }
     ensures { λ _. ⌜ SharesRow (listsCall (collationOf collation) (now (first .entry)) (now (second .entry))
-        (now (entries .entry)) (now (pool .entry)) (now (presence .entry)) (now (ranks .entry)) (now (store .entry)) (now (partners .entry)) (now (positions .entry)))
+        (now (entries .entry)) (now (pool .entry)) (now (presence .entry)) (now (ranks .entry)) (now (store .entry))
+        (now (partners .entry)) (now (positions .entry)))
         (now (answer .exit)) (now (store .exit) ∷ now (partners .exit) ∷ now (positions .exit) ∷ []) ⌝ }
 {
     let shared = lists::find_shared_accepted(

@@ -30,7 +30,8 @@ pub extern "C" fn mz_prepare_many(
     answer: &mut [u64; 4],
 )
     ensures { λ _. ⌜ PreparesManyRowPaging (manyCall (collationOf collation) (now (octets .entry)) (now (ends .entry))
-        (now (entries .entry)) (now (pool .entry)) (now (presence .entry)) (now (ranks .entry)) (now (store .entry)) (now («key_ends» .entry)) (now (valid .entry)))
+        (now (entries .entry)) (now (pool .entry)) (now (presence .entry)) (now (ranks .entry)) (now (store .entry))
+        (now («key_ends» .entry)) (now (valid .entry)))
         (now (answer .exit)) (now (store .exit) ∷ now («key_ends» .exit) ∷ now (valid .exit) ∷ [])
         (pages (now (presence .exit)) (now (ranks .exit))) ⌝ }
 {

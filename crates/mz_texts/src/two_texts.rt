@@ -26,7 +26,8 @@ pub extern "C" fn mz_equal(
     answer: &mut [u64; 4],
 )
     ensures { λ _. ⌜ RowPaging 1 equalityValues (twoCall (collationOf collation) (now (first .entry)) (now (second .entry))
-        (now (entries .entry)) (now (pool .entry)) (now (presence .entry)) (now (ranks .entry)) (now («first_key» .entry)) (now («second_key» .entry))) (now
+        (now (entries .entry)) (now (pool .entry)) (now (presence .entry)) (now (ranks .entry)) (now («first_key» .entry))
+        (now («second_key» .entry))) (now
         (answer .exit)) (now («first_key» .exit) ∷ now («second_key» .exit) ∷ [])
         (pages (now (presence .exit)) (now (ranks .exit))) ⌝ }
 {
@@ -59,7 +60,8 @@ pub extern "C" fn mz_order(
     answer: &mut [u64; 4],
 )
     ensures { λ _. ⌜ RowPaging 1 orderValues (twoCall (collationOf collation) (now (first .entry)) (now (second .entry))
-        (now (entries .entry)) (now (pool .entry)) (now (presence .entry)) (now (ranks .entry)) (now («first_key» .entry)) (now («second_key» .entry))) (now
+        (now (entries .entry)) (now (pool .entry)) (now (presence .entry)) (now (ranks .entry)) (now («first_key» .entry))
+        (now («second_key» .entry))) (now
         (answer .exit)) (now («first_key» .exit) ∷ now («second_key» .exit) ∷ [])
         (pages (now (presence .exit)) (now (ranks .exit))) ⌝ }
 {
@@ -92,7 +94,8 @@ pub extern "C" fn mz_substring(
     answer: &mut [u64; 8],
 )
     ensures { λ _. ⌜ RowPaging 5 soughtValues (twoCall (collationOf collation) (now (first .entry)) (now (second .entry))
-        (now (entries .entry)) (now (pool .entry)) (now (presence .entry)) (now (ranks .entry)) (now («first_key» .entry)) (now («second_key» .entry))) (now
+        (now (entries .entry)) (now (pool .entry)) (now (presence .entry)) (now (ranks .entry)) (now («first_key» .entry))
+        (now («second_key» .entry))) (now
         (answer .exit)) (now («first_key» .exit) ∷ now («second_key» .exit) ∷ [])
         (pages (now (presence .exit)) (now (ranks .exit))) ⌝ }
 {
@@ -126,7 +129,8 @@ pub extern "C" fn mz_equal_accepted(
 )
     requires { ⌜ UsableBy (collationOf collation) (table (now entries) (now pool)) (pages (now presence) (now ranks)) ⌝ }
     ensures { λ _. ⌜ RowAnswered 1 equalityValues (twoCall (collationOf collation) (now (first .entry)) (now (second .entry))
-        (now (entries .entry)) (now (pool .entry)) (now (presence .entry)) (now (ranks .entry)) (now («first_key» .entry)) (now («second_key» .entry))) (now
+        (now (entries .entry)) (now (pool .entry)) (now (presence .entry)) (now (ranks .entry)) (now («first_key» .entry))
+        (now («second_key» .entry))) (now
         (answer .exit)) (now («first_key» .exit) ∷ now («second_key» .exit) ∷ []) ⌝ }
 {
     let equality = compare::equal_accepted(
@@ -159,7 +163,8 @@ pub extern "C" fn mz_order_accepted(
 )
     requires { ⌜ UsableBy (collationOf collation) (table (now entries) (now pool)) (pages (now presence) (now ranks)) ⌝ }
     ensures { λ _. ⌜ RowAnswered 1 orderValues (twoCall (collationOf collation) (now (first .entry)) (now (second .entry))
-        (now (entries .entry)) (now (pool .entry)) (now (presence .entry)) (now (ranks .entry)) (now («first_key» .entry)) (now («second_key» .entry))) (now
+        (now (entries .entry)) (now (pool .entry)) (now (presence .entry)) (now (ranks .entry)) (now («first_key» .entry))
+        (now («second_key» .entry))) (now
         (answer .exit)) (now («first_key» .exit) ∷ now («second_key» .exit) ∷ []) ⌝ }
 {
     let ordered = compare::order_accepted(
@@ -192,7 +197,8 @@ pub extern "C" fn mz_substring_accepted(
 )
     requires { ⌜ UsableBy (collationOf collation) (table (now entries) (now pool)) (pages (now presence) (now ranks)) ⌝ }
     ensures { λ _. ⌜ RowAnswered 5 soughtValues (twoCall (collationOf collation) (now (first .entry)) (now (second .entry))
-        (now (entries .entry)) (now (pool .entry)) (now (presence .entry)) (now (ranks .entry)) (now («first_key» .entry)) (now («second_key» .entry))) (now
+        (now (entries .entry)) (now (pool .entry)) (now (presence .entry)) (now (ranks .entry)) (now («first_key» .entry))
+        (now («second_key» .entry))) (now
         (answer .exit)) (now («first_key» .exit) ∷ now («second_key» .exit) ∷ []) ⌝ }
 {
     let sought = search::substring_accepted(

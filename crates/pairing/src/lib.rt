@@ -48,7 +48,8 @@ pub fn judge(
 ) -> Ordered
     requires { ⌜ Usable (table (now entries) (now pool)) (pages (now presence) (now ranks)) ⌝ }
     ensures { λ r. ⌜ Judges (now (line .entry)) (table (now (entries .entry)) (now (pool .entry)))
-        (pages (now (presence .entry)) (now (ranks .entry))) (now («first_key» .entry)) (now («second_key» .entry)) r (now («first_key» .exit) ∷ now («second_key» .exit) ∷ []) ⌝ }
+        (pages (now (presence .entry)) (now (ranks .entry))) (now («first_key» .entry)) (now («second_key» .entry)) r
+        (now («first_key» .exit) ∷ now («second_key» .exit) ∷ []) ⌝ }
 {
     if PAIR_MOST < line.len() {
         return refuse(terms::REFUSED_TEXT_LENGTH);

@@ -56,17 +56,8 @@ pub fn fill_one(
             return Preparation::Prepared(fill_short(text, entries, pool, presence, ranks, key));
         }
     }
-    // Cut here, the slices are stored for this call alone; and its answer is moved, since the quick way's would share its place
-    // in memory.
-    let other = fill_one_apart(
-        collation,
-        &text[0..],
-        &entries[0..],
-        &pool[0..],
-        &presence[0..],
-        &ranks[0..],
-        &mut key[0..],
-    );
+    // The answer is moved, since that of the quick way would else stand in memory, in the same place.
+    let other = fill_one_apart(collation, text, entries, pool, presence, ranks, key);
     match other {
         Preparation::Prepared(summary) => Preparation::Prepared(summary),
         Preparation::Refused(r) => Preparation::Refused(r),
@@ -209,7 +200,8 @@ pub fn fill_two(
     requires { ⌜ length (now second) ≤ textMost ⌝ }
     requires { ⌜ UsableUnder collation (table (now entries) (now pool)) (pages (now presence) (now ranks)) ⌝ }
     ensures { λ r. ⌜ CalledReady pairOutcome preparedValues (twoCall (some collation) (now (first .entry))
-        (now (second .entry)) (now (entries .entry)) (now (pool .entry)) (now (presence .entry)) (now (ranks .entry)) (now («first_key» .entry))
+        (now (second .entry)) (now (entries .entry)) (now (pool .entry)) (now (presence .entry)) (now (ranks .entry))
+        (now («first_key» .entry))
         (now («second_key» .entry))) r (now («first_key» .exit) ∷ now («second_key» .exit) ∷ []) ⌝ }
 {
     if is_roomy(collation, first.len(), first_key.len()) {
@@ -248,7 +240,8 @@ fn fill_two_sized(
     requires { ⌜ length (now second) ≤ textMost ⌝ }
     requires { ⌜ UsableUnder collation (table (now entries) (now pool)) (pages (now presence) (now ranks)) ⌝ }
     ensures { λ r. ⌜ CalledReady pairOutcome preparedValues (twoCall (some collation) (now (first .entry))
-        (now (second .entry)) (now (entries .entry)) (now (pool .entry)) (now (presence .entry)) (now (ranks .entry)) (now («first_key» .entry))
+        (now (second .entry)) (now (entries .entry)) (now (pool .entry)) (now (presence .entry)) (now (ranks .entry))
+        (now («first_key» .entry))
         (now («second_key» .entry))) r (now («first_key» .exit) ∷ now («second_key» .exit) ∷ []) ⌝ }
 {
     let one = size_key(collation, first, entries, pool, presence, ranks);

@@ -53,7 +53,8 @@ pub fn substring(
     second_key: &mut [u8],
 ) -> Sought
     ensures { λ r. ⌜ CalledPaging substringOutcome soughtValues (twoCall (collationOf collation) (now (first .entry))
-        (now (second .entry)) (now (entries .entry)) (now (pool .entry)) (now (presence .entry)) (now (ranks .entry)) (now («first_key» .entry))
+        (now (second .entry)) (now (entries .entry)) (now (pool .entry)) (now (presence .entry)) (now (ranks .entry))
+        (now («first_key» .entry))
         (now («second_key» .entry))) r (now («first_key» .exit) ∷ now («second_key» .exit) ∷ [])
         (pages (now (presence .exit)) (now (ranks .exit))) ⌝ }
 {
@@ -96,7 +97,8 @@ pub fn substring_accepted(
 ) -> Sought
     requires { ⌜ UsableBy (collationOf collation) (table (now entries) (now pool)) (pages (now presence) (now ranks)) ⌝ }
     ensures { λ r. ⌜ Called substringOutcome soughtValues (twoCall (collationOf collation) (now (first .entry))
-        (now (second .entry)) (now (entries .entry)) (now (pool .entry)) (now (presence .entry)) (now (ranks .entry)) (now («first_key» .entry))
+        (now (second .entry)) (now (entries .entry)) (now (pool .entry)) (now (presence .entry)) (now (ranks .entry))
+        (now («first_key» .entry))
         (now («second_key» .entry))) r (now («first_key» .exit) ∷ now («second_key» .exit) ∷ []) ⌝ }
 {
     let texts = prepare::check_texts(collation, first.len(), second.len());
@@ -132,7 +134,8 @@ fn seek_ready(
     requires { ⌜ length (now second) ≤ textMost ⌝ }
     requires { ⌜ UsableUnder collation (table (now entries) (now pool)) (pages (now presence) (now ranks)) ⌝ }
     ensures { λ r. ⌜ CalledReady substringOutcome soughtValues (twoCall (some collation) (now (first .entry))
-        (now (second .entry)) (now (entries .entry)) (now (pool .entry)) (now (presence .entry)) (now (ranks .entry)) (now («first_key» .entry))
+        (now (second .entry)) (now (entries .entry)) (now (pool .entry)) (now (presence .entry)) (now (ranks .entry))
+        (now («first_key» .entry))
         (now («second_key» .entry))) r (now («first_key» .exit) ∷ now («second_key» .exit) ∷ []) ⌝ }
 {
     let pair = prepare::fill_two(
