@@ -31,17 +31,17 @@ pub enum KeyPlace {
     Buffer,
 }
 
-// What preparing a text came to. The wide fields come first: an enum that holds a summary is copied by the widths of its other
-// variant, and a wide load waits where one octet was stored.
+// What preparing a text came to. The two numbers stand apart: as neighbours they are added up both at once in the walk that sizes a
+// key, 16 octets loaded where two times 8 were stored, and it waits at each character.
 pub struct Summary {
     // The length of the key, in octets.
     pub key_length: usize,
-    // The lookup count.
-    pub lookups: u64,
     // Whether the text is valid (always so under collations 1 and 2).
     pub valid: bool,
     // Where the key stands.
     pub place: KeyPlace,
+    // The lookup count.
+    pub lookups: u64,
 }
 
 // What preparing a text comes to, with nothing written.

@@ -33,7 +33,7 @@ ghost use Rattle.prepare.specs.Promises.{neededAt, brief};
 const BRIEF_MOST: usize = 64;
 
 // The octets beside that a brief text's key is first written to: nearly all such keys fit.
-const BESIDE_OCTETS: usize = 1536;
+const BESIDE_OCTETS: usize = 1280;
 
 // Prepares a text.
 pub fn fill_one(
