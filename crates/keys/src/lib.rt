@@ -119,8 +119,7 @@ pub fn is_roomy(collation: Collation, text_length: usize, room: usize) -> bool
     false
 }
 
-// Prepares a short text under collation 3 in one walk, its key not being sized first: the buffer has room for it. What is said
-// holds of a long one too.
+// As `fill_unicode`, and quicker on a short text: short enough to be inlined, with no row. It may be given any text.
 pub fn fill_short(
     text: &[u8],
     entries: &[u32],
@@ -146,7 +145,7 @@ pub fn fill_short(
     unicode::kept(text.len())
 }
 
-// What preparing a valid text under collation 3 comes to that was written so far, to its end.
+// What preparing a valid text under collation 3 came to, once its key is written to the end.
 fn buffered(written: Progress) -> Summary
     ensures { λ r. ⌜ summaryNumbers r ≡ 1 ∷ written .lookups ∷ written .end .0 ∷ 1 ∷ [] ⌝ }
 {
