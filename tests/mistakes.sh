@@ -92,6 +92,7 @@ must_be_error MZ_PARTS=5 MZ_UNICODE_DATA=/dev/null
 must_be_error MZ_PARTS=2 MZ_SHORT= MZ_NFKD=/nowhere
 must_be_error MZ_PARTS=2 MZ_SHORT= MZ_NFKD=build/nfkd.txt MZ_NORMALIZATION=/nowhere
 must_be_error MZ_PARTS=2 MZ_SHORT= MZ_NFKD=build/nfkd.txt MZ_NORMALIZATION=/dev/null
+must_be_error MZ_PARTS=4 MZ_SHORT= MZ_UNICODE_DATA=/dev/null
 must_be_error MZ_PARTS=9 MZ_UNICODE_DATA=/dev/null
 must_be_error MZ_PARTS=3 UTF8_TEST=/nowhere
 
@@ -112,6 +113,10 @@ mistake_overlong_accepted 3
 mistake_last_occurrence 4
 mistake_field_12_ignored 4
 mistake_pages_own_entries_counted_before 4
+mistake_key_of_1537_octets_refused 4
+mistake_one_part_of_ascii_not_asked 4
+mistake_ascii_of_long_texts_not_decomposed 4
+mistake_exact_buffer_of_65_octets_refused 4
 mistake_marks_sorted 5
 mistake_29_after_24 5
 mistake_syllable_unchecked 5

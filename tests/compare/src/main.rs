@@ -4,9 +4,10 @@
 //! and the inputs in hex. Exit status 2 and a message on standard error if the comparison can't be made: a file or a setting is
 //! at fault, or a part would run no case. A read or write outside a lent slice ends the process by SIGSEGV (see `pages`).
 //!
-//! Variables: MZ_SEED and MZ_CASES (the random parts), MZ_UNICODE_DATA, MZ_NFKD and MZ_NORMALIZATION (files of part 2), UTF8_TEST
-//! (the published stress test, if it is at hand), MZ_SHORT=yes (part 2 without the keys of all scalar code points and NFKD, fewer
-//! cases in 3, 4 and 6 to 9), MZ_PARTS (the numbers of the parts to run, all without it).
+//! Variables: MZ_SEED and MZ_CASES (the random parts), MZ_UNICODE_DATA (the published file, of parts 2, 4, 5 and 9), MZ_NFKD and
+//! MZ_NORMALIZATION (files of part 2), UTF8_TEST (the published stress test, if it is at hand), MZ_SHORT=yes (part 2 without the
+//! keys of all scalar code points and NFKD, part 4 without the published table, fewer cases in 3, 4 and 6 to 9), MZ_PARTS (the
+//! numbers of the parts to run, all without it).
 
 mod abi;
 mod both;
@@ -52,11 +53,16 @@ mod records;
 mod settings;
 mod sharing;
 mod small;
+mod steps;
 mod stop;
 mod stress;
 mod syllables;
 mod tables;
 mod texts;
+mod way_calls;
+mod way_tables;
+mod way_texts;
+mod ways;
 
 use settings::Settings;
 use std::process::ExitCode;

@@ -1,4 +1,4 @@
-//! Part 4: all small cases of a kind, where luck would leave holes.
+//! Part 4: all small cases of a kind, where luck would leave holes; and every way that a key is written (see `ways`).
 
 use crate::both::{Case, Table};
 use crate::building::Building;
@@ -6,10 +6,13 @@ use crate::examples::table_t;
 use crate::page_lookups;
 use crate::settings::Settings;
 use crate::stop::Stop;
+use crate::ways;
 use second::key::key_of;
 use second::unicode_data::State;
 
 pub fn run(settings: &Settings) -> Result<u64, Stop> {
+    // First, since it reads a file: one that is missing is told at once.
+    let ways = ways::run(settings)?;
     let (needle, hay) = if settings.short { (3, 5) } else { (5, 9) };
     let found = words(needle, hay)?;
     let cuts = cuts(if settings.short { 2 } else { 4 })?;
@@ -18,7 +21,7 @@ pub fn run(settings: &Settings) -> Result<u64, Stop> {
     let largest = page_lookups::largest(settings.short)?;
     println!("  {found} words in words, {cuts} cuts of keys, {tables} tables of one or two entries, {lines} changed lines");
     println!("  {largest} tables as large as can be, in whose pages every scalar code point was looked up");
-    Ok(found + cuts + tables + lines + largest)
+    Ok(found + cuts + tables + lines + largest + ways)
 }
 
 /// Every word of at most so many letters, over two letters.

@@ -1,10 +1,11 @@
 //! Part 3: which octet sequences are valid UTF-8. Three must agree: the library, the second program, and the standard library of
-//! Rust; and for the published stress test the verdict that RFC 3629 gives.
+//! Rust; and for the published stress test the verdict that RFC 3629 gives. `steps` has those that tell an automaton's states.
 
 use crate::both::Table;
 use crate::hex::hex;
 use crate::published::{lines_of, read_file};
 use crate::settings::Settings;
+use crate::steps;
 use crate::stop::Stop;
 
 /// The sequences of the published stress test, with a verdict each.
@@ -20,13 +21,14 @@ const EDGES: [u8; 26] = [
 const TRAILING: [u8; 4] = [0x7F, 0x80, 0xBF, 0xC0];
 
 /// Over the empty table a key is at most so many times as long as its text: a Hangul syllable becomes three jamo.
-const KEY_GROWTH: usize = 3;
+pub const KEY_GROWTH: usize = 3;
 
 pub fn run(settings: &Settings) -> Result<u64, Stop> {
     let table = Table::new(vec![], vec![])?;
     let mut cases = listed(&table)?;
     cases += edges(&table, if settings.short { 2 } else { 4 })?;
     cases += first_octets(&table, if settings.short { 3 } else { 5 })?;
+    cases += steps::run(&table, settings.short)?;
     if let Some(path) = &settings.utf8_test {
         for line in lines_of(&read_file(path)?) {
             is_valid(&table, line)?;
@@ -38,7 +40,12 @@ pub fn run(settings: &Settings) -> Result<u64, Stop> {
 
 /// Whether a text is valid, as all three say.
 fn is_valid(table: &Table, text: &[u8]) -> Result<bool, String> {
-    let answer = table.prepare(true, 3, text, KEY_GROWTH * text.len())?;
+    is_valid_in(table, text, KEY_GROWTH)
+}
+
+/// The same in a buffer of so many octets for each of the text's.
+pub fn is_valid_in(table: &Table, text: &[u8], growth: usize) -> Result<bool, String> {
+    let answer = table.prepare(true, 3, text, growth * text.len())?;
     let valid = answer.row[3] == 1;
     if answer.row[0] != 0 || valid != std::str::from_utf8(text).is_ok() {
         return Err(format!("{}: both programs answer {:?}, the standard library differs", hex(text), answer.row));
