@@ -113,7 +113,7 @@ mistake_overlong_accepted 3
 mistake_last_occurrence 4
 mistake_field_12_ignored 4
 mistake_pages_own_entries_counted_before 4
-mistake_key_of_1537_octets_refused 4
+mistake_key_of_1281_octets_refused 4
 mistake_one_part_of_ascii_not_asked 4
 mistake_ascii_of_long_texts_not_decomposed 4
 mistake_exact_buffer_of_65_octets_refused 4

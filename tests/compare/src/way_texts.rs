@@ -110,7 +110,7 @@ pub fn broken(text: &[u8], breadth: Breadth) -> Vec<Vec<u8>> {
 pub fn to_the_brim(breadth: Breadth) -> Vec<Vec<u8>> {
     let mut texts = Vec::new();
     for heavy in [[b'b', b'b'], [b'b', b'c']] {
-        for count in 10..=14 {
+        for count in 8..=12 {
             for others in (0..=64 - count).step_by(if breadth == Breadth::Wide { 1 } else { 13 }) {
                 let heavy: Vec<u8> = heavy.iter().copied().cycle().take(count).collect();
                 let others = vec![b'x'; others];

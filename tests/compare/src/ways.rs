@@ -17,7 +17,7 @@ use std::collections::{BTreeMap, BTreeSet};
 const EXPANSION_MOST: usize = 128;
 const LONG_TEXT: usize = 512;
 const BRIEF_MOST: usize = 64;
-const BESIDE_OCTETS: usize = 1_536;
+const BESIDE_OCTETS: usize = 1_280;
 
 #[derive(PartialEq, Eq, PartialOrd, Ord, Clone, Copy, Debug)]
 enum Way {
