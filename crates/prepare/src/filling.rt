@@ -206,8 +206,15 @@ pub fn fill_two(
 {
     if is_roomy(collation, first.len(), first_key.len()) {
         if is_roomy(collation, second.len(), second_key.len()) {
-            let one = fill_short(first, entries, pool, presence, ranks, first_key);
-            let two = fill_short(second, entries, pool, presence, ranks, second_key);
+            if first.len() < keys::LONG_TEXT {
+                if second.len() < keys::LONG_TEXT {
+                    let one = fill_short(first, entries, pool, presence, ranks, first_key);
+                    let two = fill_short(second, entries, pool, presence, ranks, second_key);
+                    return PreparedPair::Both(one, two);
+                }
+            }
+            let one = fill_unicode(first, entries, pool, presence, ranks, first_key);
+            let two = fill_unicode(second, entries, pool, presence, ranks, second_key);
             return PreparedPair::Both(one, two);
         }
     }

@@ -1,13 +1,17 @@
 -- `prepare::filling::fill_two` meets its contract: where both buffers are roomy 8 does not apply, and both keys are filled
--- in; else they are sized first.
+-- in, of two short texts as such; else they are sized first.
 -- Assumes nothing.
-use mathlib.Core.Path.{sym, _∙_}
+use mathlib.Core.Path.{_≡_, sym, _∙_}
+use mathlib.Core.Option.{none}
+use Prim.Native.Nat.{_≤_}
 use native.Mathlib.Omega.{arith}
 use lib.ListN.{length}
 use borrow.Author.Needs.{needs}
-use Rattle.table.specs.Table.{table}
+use Rattle.table.specs.Table.{table, mappingOf}
+use Rattle.utf8.specs.Utf8.{characters}
 use Rattle.pages.specs.Pages.{pages}
 use Rattle.decompose.specs.TableCheck.{Usable}
+use Rattle.keys.specs.Keys.{unicodePrepared, roomFor, tableUnder}
 use Rattle.keys.proofs.Collations.{usable-accepted, usable-unicode}
 use Rattle.keys.proofs.Bounds.{key-most, Roomy, roomy-enough}
 use Rattle.prepare.proofs.Rooms.{filled-written, two-written}
@@ -32,26 +36,45 @@ usable : (c : tie.Then2) → let args = start c .args in
     Usable (table (args .entries .now) (args .pool .now)) (pages (args .presence .now) (args .ranks .now))
 usable c = usable-unicode _ (first c .unicode) (start c .pre .1 .1)
 
+-- so there is room for both keys
+first-room : (c : tie.Then2) → let args = start c .args in
+    roomFor (unicodePrepared (mappingOf (table (args .entries .now) (args .pool .now))) (args .first .now) (characters (args .first .now)))
+    ≤ length (args .first-key .now)
+first-room c =
+    let args = start c .args in
+    omega (arith, key-most (table (args .entries .now) (args .pool .now)) (args .first .now) (usable c .accepted), first c .enough)
+
+second-room : (c : tie.Then2) → let args = start c .args in
+    roomFor (unicodePrepared (mappingOf (table (args .entries .now) (args .pool .now))) (args .second .now) (characters (args .second .now)))
+    ≤ length (args .second-key .now)
+second-room c =
+    let args = start c .args in
+    omega (arith, key-most (table (args .entries .now) (args .pool .now)) (args .second .now) (usable c .accepted), second c .enough)
+
+-- and the table was accepted
+accepted : (c : tie.Then2) → let args = start c .args in
+    tableUnder (args .collation) (table (args .entries .now) (args .pool .now)) ≡ none
+accepted c =
+    let s = start c in
+    usable-accepted (s .args .collation) (table (s .args .entries .now) (s .args .pool .now))
+    (pages (s .args .presence .now) (s .args .ranks .now)) (s .pre .1 .1)
+
 is-roomy-requires : tie.Need-is-roomy-requires
 is-roomy-requires c κs = search needs
 
 is-roomy-requires-2 : tie.Need-is-roomy-requires-2
 is-roomy-requires-2 c κs = search needs
 
--- both buffers are roomy
+-- two short texts
 fill-short-requires : tie.Need-fill-short-requires
 fill-short-requires c κs =
-    let r = c .before in
-    let args = start r .args in
-    let most = key-most (table (args .entries .now) (args .pool .now)) (args .first .now) (usable r .accepted) in
-    (start r .pre .0, (usable r, omega (arith, most, first r .enough)))
+    let r = c .before .before .before in
+    (start r .pre .0, (usable r, first-room r))
 
 fill-short-requires-2 : tie.Need-fill-short-requires-2
 fill-short-requires-2 c κs =
-    let r = c .before .before .before .before .before in
-    let args = start r .args in
-    let most = key-most (table (args .entries .now) (args .pool .now)) (args .second .now) (usable r .accepted) in
-    (start r .pre .1 .0, (usable r, omega (arith, most, second r .enough)))
+    let r = c .before .before .before .before .before .before .before in
+    (start r .pre .1 .0, (usable r, second-room r))
 
 same-length : tie.Need-same-length
 same-length c = search needs
@@ -59,19 +82,23 @@ same-length c = search needs
 same-length-2 : tie.Need-same-length-2
 same-length-2 c = search needs
 
--- both filled in
 returns : tie.Need-returns
 returns c =
-    let r = c .before .before .before .before .before .before .before .before in
-    let s = start r in
-    let accepted = usable-accepted (s .args .collation) (table (s .args .entries .now) (s .args .pool .now))
-    (pages (s .args .presence .now) (s .args .ranks .now)) (s .pre .1 .1) in
+    let r = c .before .before .before .before .before .before .before .before .before .before in
     two-written
-    (filled-written accepted (first r) (c .before .before .before .before .before .before .fill-short .ensures))
-    (filled-written accepted (second r) (c .before .before .fill-short2 .ensures))
+    (filled-written (accepted r) (first r) (c .before .before .before .before .before .before .fill-short .ensures))
+    (filled-written (accepted r) (second r) (c .before .before .fill-short2 .ensures))
 
-fill-two-sized-requires : tie.Need-fill-two-sized-requires
-fill-two-sized-requires c κs = search needs
+-- any others
+fill-unicode-requires : tie.Need-fill-unicode-requires
+fill-unicode-requires c κs =
+    let r = c .before .before in
+    (start r .pre .0, (usable r, first-room r))
+
+fill-unicode-requires-2 : tie.Need-fill-unicode-requires-2
+fill-unicode-requires-2 c κs =
+    let r = c .before .before .before .before .before .before in
+    (start r .pre .1 .0, (usable r, second-room r))
 
 same-length-3 : tie.Need-same-length-3
 same-length-3 c = search needs
@@ -80,7 +107,23 @@ same-length-4 : tie.Need-same-length-4
 same-length-4 c = search needs
 
 returns-2 : tie.Need-returns-2
-returns-2 c = search needs
+returns-2 c =
+    let r = c .before .before .before .before .before .before .before .before .before in
+    two-written
+    (filled-written (accepted r) (first r) (c .before .before .before .before .before .before .fill-unicode .ensures))
+    (filled-written (accepted r) (second r) (c .before .before .fill-unicode2 .ensures))
+
+fill-two-sized-requires : tie.Need-fill-two-sized-requires
+fill-two-sized-requires c κs = search needs
+
+same-length-5 : tie.Need-same-length-5
+same-length-5 c = search needs
+
+same-length-6 : tie.Need-same-length-6
+same-length-6 c = search needs
+
+returns-3 : tie.Need-returns-3
+returns-3 c = search needs
 
 pub fill-two-spec : {M : Type 1} → statement M
 fill-two-spec =
@@ -93,7 +136,12 @@ fill-two-spec =
     same-length
     same-length-2
     returns
-    fill-two-sized-requires
+    fill-unicode-requires
+    fill-unicode-requires-2
     same-length-3
     same-length-4
-    returns-2)
+    returns-2
+    fill-two-sized-requires
+    same-length-5
+    same-length-6
+    returns-3)
