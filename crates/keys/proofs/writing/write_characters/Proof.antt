@@ -1,65 +1,66 @@
 -- `keys::writing::write_characters` meets its contract: each slice is cut whole.
 -- Assumes nothing.
 use mathlib.Core.Path.{ap, _∙_}
+use Prim.Native.Nat.{zero-le}
+use native.Mathlib.Nat.{le-refl}
 use lib.ListN.{length}
-use borrow.Author.Needs.{needs}
 use Rattle.terms.proofs.Parts.{take-drop, put-back}
 use Rattle.keys.proofs.writing.write_characters.Statement.{statement}
 use Rattle.keys.proofs.writing.write_characters.Tie as tie
 
 sub-text-part : tie.Need-sub-text-part
-sub-text-part c = search needs
+sub-text-part c = zero-le
 
 part-text-part-start : tie.Need-part-text-part-start
-part-text-part-start c = search needs
+part-text-part-start c = zero-le
 
 part-text-part-end : tie.Need-part-text-part-end
-part-text-part-end c = search needs
+part-text-part-end c = le-refl _
 
 sub-entries-part : tie.Need-sub-entries-part
-sub-entries-part c = search needs
+sub-entries-part c = zero-le
 
 part-entries-part-start : tie.Need-part-entries-part-start
-part-entries-part-start c = search needs
+part-entries-part-start c = zero-le
 
 part-entries-part-end : tie.Need-part-entries-part-end
-part-entries-part-end c = search needs
+part-entries-part-end c = le-refl _
 
 sub-pool-part : tie.Need-sub-pool-part
-sub-pool-part c = search needs
+sub-pool-part c = zero-le
 
 part-pool-part-start : tie.Need-part-pool-part-start
-part-pool-part-start c = search needs
+part-pool-part-start c = zero-le
 
 part-pool-part-end : tie.Need-part-pool-part-end
-part-pool-part-end c = search needs
+part-pool-part-end c = le-refl _
 
 sub-presence-part : tie.Need-sub-presence-part
-sub-presence-part c = search needs
+sub-presence-part c = zero-le
 
 part-presence-part-start : tie.Need-part-presence-part-start
-part-presence-part-start c = search needs
+part-presence-part-start c = zero-le
 
 part-presence-part-end : tie.Need-part-presence-part-end
-part-presence-part-end c = search needs
+part-presence-part-end c = le-refl _
 
 sub-ranks-part : tie.Need-sub-ranks-part
-sub-ranks-part c = search needs
+sub-ranks-part c = zero-le
 
 part-ranks-part-start : tie.Need-part-ranks-part-start
-part-ranks-part-start c = search needs
+part-ranks-part-start c = zero-le
 
 part-ranks-part-end : tie.Need-part-ranks-part-end
-part-ranks-part-end c = search needs
+part-ranks-part-end c = le-refl _
 
 sub-key-part : tie.Need-sub-key-part
-sub-key-part c = search needs
+sub-key-part c = zero-le
 
 part-key-part-start : tie.Need-part-key-part-start
-part-key-part-start c = search needs
+part-key-part-start c = zero-le
 
 part-key-part-end : tie.Need-part-key-part-end
-part-key-part-end c = search needs
+part-key-part-end c = le-refl _
 
 -- the parts are the slices, and what comes back is put back whole
 walk-requires : tie.Need-walk-requires
