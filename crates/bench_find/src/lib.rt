@@ -1,4 +1,7 @@
 // `occurrence::find` for C, so that the benchmark can run it beside the C library's memmem. It is no part of the library.
+
+#![tactic(auto)]
+
 ghost use Rattle.std.specs.Prelude.{◌≡◌};
 ghost use Rattle.occurrence.specs.Occurrence.{occurrence};
 ghost use Rattle.bench_find.specs.Promises.{place_or_zero};

@@ -3,6 +3,9 @@
 //
 // The definitions stand in specs/. No public function has a `requires`: any state, any octets and any slices get an answer, and
 // nothing is written unless the line is not refused.
+
+#![tactic(auto)]
+
 mod checks;
 mod storing;
 
@@ -16,7 +19,7 @@ use terms::Refusal;
 use ucd::{Reading, SimpleProperties};
 
 // The builder's state: entries used, pool numbers used, and one more than the last code point, or 0. All zeros is fresh.
-#[derive(Drop)]
+#[derive(Clone, Copy)]
 pub struct LineState {
     pub entries_used: usize,
     pub pool_used: usize,
@@ -24,7 +27,7 @@ pub struct LineState {
 }
 
 // What becomes of a line, with the state afterwards: on a refusal the state that came in.
-#[derive(Drop)]
+#[derive(Clone, Copy)]
 pub enum Line {
     Taken(LineState),
     Refused(Refusal, LineState),

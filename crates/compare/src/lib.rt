@@ -1,6 +1,9 @@
 // Equality and order of two texts under a collation (document 01, "The collations").
 //
 // `equal` and `order` take any arguments at all; the `_accepted` ones ask for a table that is accepted already and its pages.
+
+#![tactic(auto)]
+
 ghost use Rattle.std.specs.Prelude.{◌≡◌, [], ◌∷◌, ◌≤◌, length};
 ghost use Rattle.std.proofs.Math.Option.{some};
 ghost use Rattle.terms.specs.Collations.{collation_of};
@@ -19,7 +22,7 @@ use prepare::{CallCheck, PreparedPair};
 use terms::{Collation, Refusal};
 
 // Whether two texts are equal under a collation.
-#[derive(Drop)]
+#[derive(Clone, Copy)]
 pub enum Equality {
     Match,
     NoMatch,
@@ -27,7 +30,7 @@ pub enum Equality {
 }
 
 // How two texts are ordered under a collation. A refused order is no order.
-#[derive(Drop)]
+#[derive(Clone, Copy)]
 pub enum Ordered {
     Less,
     Equal,

@@ -5,6 +5,9 @@
 // code points or 8 levels, and every code point that is looked up either takes one of the 32 or is split into ones that do;
 // so on each of the levels 0 to 8 at most 33 are looked up, some 300 in all. So are 67 jamo, which decide for all syllables.
 // The functions on one expansion and the row ask for an accepted table and its pages.
+
+#![tactic(auto)]
+
 mod depth;
 mod plain;
 
@@ -27,7 +30,7 @@ use table::{Place, layout};
 use terms::{Check, CodePoint};
 
 // How many code points a code point unfolds into.
-#[derive(Drop)]
+#[derive(Clone, Copy)]
 pub enum Measurement {
     Fits(usize),
     // More levels or code points than there was room for.
@@ -35,7 +38,7 @@ pub enum Measurement {
 }
 
 // What unfolding came to: the octets of the code points, and the asks.
-#[derive(Drop)]
+#[derive(Clone, Copy)]
 pub struct Unfolded {
     pub octets: usize,
     pub asks: u64,

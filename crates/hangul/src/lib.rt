@@ -1,6 +1,9 @@
 // Hangul syllables and the jamo that they decompose into (document 02, request 4; the Unicode Standard, section 3.12).
 //
 // The constants have the Standard's names. Nothing is read but the code point itself.
+
+#![tactic(auto)]
+
 ghost use Rattle.std.specs.Prelude.{◌≡◌, true};
 ghost use Rattle.hangul.specs.Hangul.{syllable, syllable_parts};
 ghost use Rattle.hangul.specs.Promises.{jamo_of};

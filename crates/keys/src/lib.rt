@@ -1,6 +1,9 @@
 // Keys of the collations (document 01, "The collations", "Preparation"): the size and the octets of one text's key.
 //
 // The functions work on an accepted table, a text within the limit and enough room, and say so; `shown_part` takes anything.
+
+#![tactic(auto)]
+
 mod ascii;
 mod long;
 mod unicode;
@@ -23,7 +26,7 @@ use terms::{Collation, TextPosition};
 pub const LONG_TEXT: usize = 512;
 
 // Where a key stands: it is the text itself, or stands at the start of the key buffer.
-#[derive(Drop)]
+#[derive(Clone, Copy)]
 pub enum KeyPlace {
     Text,
     Buffer,
@@ -31,7 +34,7 @@ pub enum KeyPlace {
 
 // What preparing a text came to. The two numbers stand apart: as neighbours they are added up both at once in the walk that sizes a
 // key, 16 octets loaded where two times 8 were stored, and it waits at each character.
-#[derive(Drop)]
+#[derive(Clone, Copy)]
 pub struct Summary {
     // The length of the key, in octets.
     pub key_length: usize,
@@ -157,7 +160,7 @@ fn buffered(written: Progress) -> Summary
 }
 
 // What preparing a text into a buffer came to that need not have room.
-#[derive(Drop)]
+#[derive(Clone, Copy)]
 pub enum Trial {
     Filled(Summary),
     // The buffer might have been too short, and what it holds is no key.

@@ -11,7 +11,7 @@ ghost use Rattle.keys.specs.Walks.{RoomTo, Walked, WalkedTo};
 use terms::{KeyPosition, TextPosition};
 
 // How far a text is written.
-#[derive(Drop)]
+#[derive(Clone, Copy)]
 pub struct Progress {
     // The octets of the text that were read, all characters whole.
     pub at: TextPosition,

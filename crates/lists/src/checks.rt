@@ -16,7 +16,7 @@ use crate::putting::size_keys;
 use terms::{Check, Collation, CollationName, Refusal};
 
 // What checking two lists comes to.
-#[derive(Drop)]
+#[derive(Clone, Copy)]
 pub enum ListsCheck {
     // The collation, and the names of both.
     Passed(Collation, NameCount, NameCount),

@@ -2,6 +2,9 @@
 //
 // A list is kind 1 records, one after another. `find_shared` takes any arguments at all; the `_accepted` one asks for a table
 // that is accepted already and its pages. The definitions stand in specs/, and those of what keys share in the crate partners.
+
+#![tactic(auto)]
+
 mod checks;
 mod filling;
 mod names;
@@ -20,7 +23,7 @@ use prepare::CallCheck;
 use terms::Refusal;
 
 // What two lists share.
-#[derive(Drop)]
+#[derive(Clone, Copy)]
 pub struct Totals {
     // Names in each list.
     pub first_names: usize,
@@ -32,7 +35,7 @@ pub struct Totals {
 }
 
 // Which names two lists share.
-#[derive(Drop)]
+#[derive(Clone, Copy)]
 pub enum Shared {
     Found(Totals),
     Refused(Refusal),

@@ -8,14 +8,14 @@ use records::Record;
 use terms::{RecordPosition, Refusal};
 
 // How many names a list has, and how many octets they have together.
-#[derive(Drop)]
+#[derive(Clone, Copy)]
 pub struct NameCount {
     pub names: usize,
     pub octets: usize,
 }
 
 // What reading a list through comes to.
-#[derive(Drop)]
+#[derive(Clone, Copy)]
 pub enum Listing {
     Names(NameCount),
     // The first record that is no name, by its refusal.
@@ -23,7 +23,7 @@ pub enum Listing {
 }
 
 // Where a name stands in its list; the next record begins at its end.
-#[derive(Drop)]
+#[derive(Clone, Copy)]
 pub struct NamePlace {
     pub start: RecordPosition,
     pub end: RecordPosition,

@@ -3,6 +3,9 @@
 // The texts stand one after another in one slice of octets, and a second slice says where each ends; the keys are left in the
 // same way. `prepare_many` takes any arguments at all. The functions of the other modules work where checks were passed, and
 // say so.
+
+#![tactic(auto)]
+
 mod checks;
 mod filling;
 
@@ -17,7 +20,7 @@ use prepare::CallCheck;
 use terms::Refusal;
 
 // What preparing many texts answers.
-#[derive(Drop)]
+#[derive(Clone, Copy)]
 pub enum Batch {
     // The octets of all keys together.
     Prepared(usize),

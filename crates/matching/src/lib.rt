@@ -3,6 +3,9 @@
 //
 // `match_keys` takes any arguments at all. What keys share is defined and found as for lists of at most 1,024 names, by the
 // crate partners; here stand the checks, and the rows in which all keys are told in order.
+
+#![tactic(auto)]
+
 mod rows;
 
 ghost use Rattle.std.specs.Prelude.{◌≡◌, [], ◌∷◌, ◌<◌, ◌≤◌, length};
@@ -16,7 +19,7 @@ use rows::{count_from_one, mark_repeats};
 use terms::{Check, Refusal};
 
 // What two lists of keys share.
-#[derive(Drop)]
+#[derive(Clone, Copy)]
 pub enum Matched {
     Found(Totals),
     Refused(Refusal),

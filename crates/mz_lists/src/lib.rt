@@ -3,6 +3,9 @@
 //
 // `mz_find_shared` takes any arguments at all; its twin asks for a table that is accepted already and its pages. That pointers and lengths
 // are what the header says of them is the C caller's part: no proof sees it.
+
+#![tactic(auto)]
+
 ghost use Rattle.std.specs.Prelude.{◌≡◌, [], ◌∷◌};
 ghost use Rattle.terms.specs.Collations.{collation_of};
 ghost use Rattle.terms.specs.Refusals.{row};

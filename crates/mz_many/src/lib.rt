@@ -3,6 +3,9 @@
 //
 // Both take any arguments at all. That pointers and lengths are what the header says of them is the C caller's part: no proof
 // sees it.
+
+#![tactic(auto)]
+
 ghost use Rattle.std.specs.Prelude.{◌≡◌, [], ◌∷◌};
 ghost use Rattle.terms.specs.Collations.{collation_of};
 ghost use Rattle.terms.specs.Refusals.{row};

@@ -3,6 +3,9 @@
 //
 // All take any arguments at all. That pointers and lengths are what the header says of them is the C caller's part: no proof
 // sees it.
+
+#![tactic(auto)]
+
 mod rows;
 
 ghost use Rattle.std.specs.Prelude.{◌≡◌};

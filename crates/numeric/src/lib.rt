@@ -1,6 +1,9 @@
 // Numbers as texts write them, and how they are ordered (RFC 4790, section 9.1, i;ascii-numeric).
 //
 // No number is computed, so that texts of any length are compared, each in one pass over its digits.
+
+#![tactic(auto)]
+
 ghost use Rattle.std.specs.Prelude.{◌≡◌, not, drop};
 ghost use Prim.Native.Nat.{compare};
 ghost use Rattle.terms.specs.Lists.{empty};

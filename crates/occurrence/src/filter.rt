@@ -8,7 +8,7 @@ ghost use Rattle.occurrence.specs.Matches.{block, Skipped};
 const BLOCK: usize = 64;
 
 // A place of the hay, and the end of the last block that was looked at.
-#[derive(Drop)]
+#[derive(Clone, Copy)]
 pub struct Place {
     pub at: usize,
     pub looked: usize,

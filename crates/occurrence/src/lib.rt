@@ -4,6 +4,9 @@
 // fronts that repeat three times or more (after Galil and Seiferas, 1983). That the table has room for them all is proved, so
 // there is no slower search to fall back on. That the time grows with the sum of the lengths is no part of a contract: it is
 // measured.
+
+#![tactic(auto)]
+
 mod filter;
 mod matches;
 mod places;
@@ -16,7 +19,7 @@ ghost use Rattle.occurrence.specs.Promises.{place_found};
 use terms::KeyPosition;
 
 // Where the needle stands, if it stands anywhere.
-#[derive(Drop)]
+#[derive(Clone, Copy)]
 pub enum Occurrence {
     At(KeyPosition),
     Nowhere,

@@ -10,7 +10,7 @@ use crate::matches::extend;
 pub const ROWS_MOST: usize = 64;
 
 // How far to go on from a place, and how many octets are kept as matched at the new one.
-#[derive(Drop)]
+#[derive(Clone, Copy)]
 pub struct Shift {
     pub by: usize,
     pub kept: usize,

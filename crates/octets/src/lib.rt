@@ -1,4 +1,7 @@
 // Octets: how two slices of them are ordered, and putting some at the start of a slice.
+
+#![tactic(auto)]
+
 ghost use Rattle.std.specs.Prelude.{◌≡◌, ◌⊎◌, ◌+◌, ◌≤◌, length, take, drop};
 ghost use Rattle.terms.specs.Lists.{put_at};
 ghost use Rattle.octets.specs.Numbers.{ReadsNumber};
@@ -9,7 +12,7 @@ ghost use Rattle.octets.specs.Put.{Puts};
 const IN_BLOCKS_MOST: usize = 32;
 
 // How two slices of octets are ordered.
-#[derive(Drop)]
+#[derive(Clone, Copy)]
 pub enum Comparison {
     Less,
     Equal,

@@ -3,6 +3,9 @@
 //
 // `fill_pages` asks for entries that ascend and for two slices that are long enough; the functions that look up, for a table of
 // the form with pages so filled.
+
+#![tactic(auto)]
+
 ghost use Rattle.std.specs.Prelude.{◌≡◌, true, ◌*◌, ◌/◌, ◌%◌, ◌^◌, ◌≤◌, ◌<◌, eqb, length};
 ghost use Rattle.std.specs.Int.Count.{ones};
 ghost use Rattle.terms.specs.CodePoints.{scalar};
@@ -19,7 +22,7 @@ use terms::CodePoint;
 const PAGE_SIZE: u32 = 64;
 
 // What reading a page came to: its presence bits, and the first entry after it.
-#[derive(Drop)]
+#[derive(Clone, Copy)]
 pub struct Page {
     pub word: u64,
     pub next: usize,

@@ -1,6 +1,9 @@
 // A line of the program `pairs` and what it prints for it (document 01, "The program `pairs`").
 //
 // What the program reads and writes can't stand in a contract, so all that it decides is decided here, over lent slices.
+
+#![tactic(auto)]
+
 mod words;
 
 ghost use Rattle.std.specs.Prelude.{◌≡◌, [], ◌∷◌, ◌<◌, length};
@@ -24,7 +27,7 @@ pub const PAIR_MOST: usize = 8193;
 const TAB: u8 = 0x09;
 
 // Where the first tab of a line stands, if there is one.
-#[derive(Drop)]
+#[derive(Clone, Copy)]
 pub enum Tab {
     At(usize),
     Nowhere,

@@ -3,6 +3,9 @@
 //
 // What a program reads and writes can't stand in a contract: here every function is proved safe and ending, and what is
 // decided of a line, and the words that are printed, are contracts of the crates pairing, builder and decompose.
+
+#![tactic(auto)]
+
 mod answers;
 mod growing;
 mod output;

@@ -8,7 +8,7 @@ use octets::Comparison;
 use sorting::key_at;
 
 // The second list's numbers that have a key.
-#[derive(Drop)]
+#[derive(Clone, Copy)]
 pub struct Group {
     pub count: u64,
     // The lowest, from 1; 0 if there is none.

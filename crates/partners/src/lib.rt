@@ -4,6 +4,9 @@
 // The keys of both lists stand in a store one after another, the first list's before the second's. All their numbers are sorted
 // by key, and one walk over the sorted row finds everything: no pair is looked at. Any number of names below 2 to the 32 is
 // taken; all rows are lent.
+
+#![tactic(auto)]
+
 mod groups;
 
 ghost use Rattle.std.specs.Prelude.{◌≡◌, cond, ◌<◌, ◌≤◌, eqb, length};
@@ -15,7 +18,7 @@ pub use groups::repeats_key;
 use groups::{Group, group_at};
 
 // The totals of two lists.
-#[derive(Drop)]
+#[derive(Clone, Copy)]
 pub struct Totals {
     // Equal pairs across the lists.
     pub equal_pairs: u64,

@@ -3,6 +3,9 @@
 // `prepare` and `shown_key` take any arguments at all: `prepare` is its check, which fills the pages, and then what is left of the
 // call; `prepare_accepted` asks for a table that is accepted already and its pages. The functions of the module filling work
 // where 1 to 7 and 15 were passed, and say so: comparing calls stand on `check_call`, `check_texts` and `fill_two`.
+
+#![tactic(auto)]
+
 mod checks;
 mod filling;
 
@@ -20,21 +23,21 @@ use keys::Summary;
 use terms::{Collation, Refusal};
 
 // What preparing a text answers.
-#[derive(Drop)]
+#[derive(Clone, Copy)]
 pub enum Preparation {
     Prepared(Summary),
     Refused(Refusal),
 }
 
 // What preparing two texts for a comparison answers.
-#[derive(Drop)]
+#[derive(Clone, Copy)]
 pub enum PreparedPair {
     Both(Summary, Summary),
     Refused(Refusal),
 }
 
 // Whether a call passes the checks before any key is looked at, and its collation then.
-#[derive(Drop)]
+#[derive(Clone, Copy)]
 pub enum CallCheck {
     Passed(Collation),
     Refused(Refusal),

@@ -2,6 +2,9 @@
 //
 // The definitions stand in specs/. No public function has a `requires`: any octets, any position and any numbers get an answer,
 // and a slice is written only where the whole record is.
+
+#![tactic(auto)]
+
 mod fields;
 mod numbers;
 mod reading;
@@ -15,7 +18,7 @@ ghost use Rattle.records.specs.Writing.{Writes};
 use terms::{RecordPosition, Refusal};
 
 // What a record says of a key: the number of its collation, 1 if the text was valid under it else 0, and the text's length.
-#[derive(Drop)]
+#[derive(Clone, Copy)]
 pub struct KeyFields {
     pub collation: u32,
     pub valid: u64,
@@ -23,7 +26,7 @@ pub struct KeyFields {
 }
 
 // What is read at a position: the octets of a text or a key from a start to an end, which is the next record's position.
-#[derive(Drop)]
+#[derive(Clone, Copy)]
 pub enum Record {
     // The end of the slice.
     End,
@@ -33,7 +36,7 @@ pub enum Record {
 }
 
 // What becomes of a text or a key that is to be written.
-#[derive(Drop)]
+#[derive(Clone, Copy)]
 pub enum Written {
     // Its record stands in the slice, up to this position.
     Upto(RecordPosition),

@@ -11,7 +11,7 @@ use super::numbers::number_of;
 use terms::{RecordPosition, Refusal};
 
 // What the octets from a position on begin with.
-#[derive(Drop)]
+#[derive(Clone, Copy)]
 enum Frame {
     // A length, and at least as many octets after it.
     Whole(usize),

@@ -12,14 +12,14 @@ ghost use Rattle.search.specs.Promises.{Within, HasOctet, HolderFound, holding, 
 use terms::{KeyPosition, TextPosition};
 
 // A run of a text, from its start to its end.
-#[derive(Drop)]
+#[derive(Clone, Copy)]
 pub struct Run {
     pub start: TextPosition,
     pub end: TextPosition,
 }
 
 // The character whose expansion holds an octet of the key: its place in the text, and which octet of its expansion it is.
-#[derive(Drop)]
+#[derive(Clone, Copy)]
 pub struct Holder {
     pub start: TextPosition,
     pub end: TextPosition,

@@ -1,6 +1,9 @@
 // Substring search under a collation (document 01, "The substring answer").
 //
 // `substring` takes any arguments at all; `substring_accepted` asks for a table that is accepted already and its pages.
+
+#![tactic(auto)]
+
 mod covering;
 
 ghost use Rattle.std.specs.Prelude.{◌≡◌, [], ◌∷◌, ◌≤◌, length};
@@ -23,7 +26,7 @@ use prepare::{CallCheck, PreparedPair};
 use terms::{Collation, KeyPosition, Refusal, TextPosition};
 
 // Where the first text's key occurs in the second's, and the run of whole characters of the second text that covers it.
-#[derive(Drop)]
+#[derive(Clone, Copy)]
 pub enum Sought {
     Match {
         key_start: KeyPosition,

@@ -2,6 +2,9 @@
 //
 // The keys stand in a store one after another, and a row has their numbers. The order is a parameter of the definitions
 // (specs/Sorted.antt), not of the functions. All functions work on numbers of keys that are there, and say so.
+
+#![tactic(auto)]
+
 mod merging;
 
 ghost use Rattle.std.specs.Prelude.{◌≡◌, true, ◌<◌, ◌≤◌, length};

@@ -7,7 +7,7 @@ ghost use Rattle.storing.specs.Ends.{faulty_end, ends_refusal, place_found};
 use terms::{Check, Refusal};
 
 // The number of an octet string, if there is one at fault.
-#[derive(Drop)]
+#[derive(Clone, Copy)]
 pub enum Place {
     At(usize),
     Nowhere,

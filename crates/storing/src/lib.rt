@@ -3,6 +3,9 @@
 //
 // The checks take anything; `put_key` works on an accepted table with its pages, a text within the limit and enough room, and
 // says so.
+
+#![tactic(auto)]
+
 mod ends;
 mod rooms;
 

@@ -1,6 +1,9 @@
 // The mapping table (document 01, "The mapping table"): two lent slices, the entries and the pool.
 //
 // `check_form` takes any two slices. The functions that look up ask for the form, which it decides.
+
+#![tactic(auto)]
+
 mod faults;
 pub mod layout;
 
@@ -14,7 +17,7 @@ ghost use Rattle.table.specs.Promises.{place_found, Ascending, Candidates};
 use terms::{Check, CodePoint, Refusal};
 
 // Where something is, counted from 0, if it is anywhere.
-#[derive(Drop)]
+#[derive(Clone, Copy)]
 pub enum Place {
     At(usize),
     Nowhere,

@@ -2,28 +2,31 @@
 //
 // Three functions stand here, since several crates ask them: whether a number is scalar, which collation a number names, and
 // whether a collation reads the table.
+
+#![tactic(auto)]
+
 ghost use Rattle.std.specs.Prelude.{◌≡◌};
 ghost use Rattle.terms.specs.CodePoints.{scalar};
 ghost use Rattle.terms.specs.Collations.{collation_of, reads_table, collation_named};
 
 // A code point's number: "Code point numbers and octet positions are counted apart".
-#[derive(Drop)]
+#[derive(Clone, Copy)]
 pub struct CodePoint(pub u32);
 
 // A position in a key, in octets from its start.
-#[derive(Drop)]
+#[derive(Clone, Copy)]
 pub struct KeyPosition(pub usize);
 
 // A position in a text, in octets from its start.
-#[derive(Drop)]
+#[derive(Clone, Copy)]
 pub struct TextPosition(pub usize);
 
 // A position in a slice of records, in octets from its start.
-#[derive(Drop)]
+#[derive(Clone, Copy)]
 pub struct RecordPosition(pub usize);
 
 // Why a call is refused: its number in documents 01 and 02, which text or list (1 or 2, 0 neither), and the detail.
-#[derive(Drop)]
+#[derive(Clone, Copy)]
 pub struct Refusal {
     pub number: u32,
     pub place: u32,
@@ -31,14 +34,14 @@ pub struct Refusal {
 }
 
 // What a check answers.
-#[derive(Drop)]
+#[derive(Clone, Copy)]
 pub enum Check {
     Passed,
     Refused(Refusal),
 }
 
 // The collations of document 01. A number becomes one by `collation_of` alone.
-#[derive(Drop)]
+#[derive(Clone, Copy)]
 pub enum Collation {
     // i;octet
     Octet,
@@ -49,7 +52,7 @@ pub enum Collation {
 }
 
 // What a number names.
-#[derive(Drop)]
+#[derive(Clone, Copy)]
 pub enum CollationName {
     Known(Collation),
     // No collation has the number.

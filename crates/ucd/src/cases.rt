@@ -8,7 +8,7 @@ use crate::{fields, numbers};
 use terms::CodePoint;
 
 // The titlecase that fields 12 and 14 give a code point.
-#[derive(Drop)]
+#[derive(Clone, Copy)]
 pub enum Titlecase {
     Value(CodePoint),
     // Field 12 is neither empty nor a code point.

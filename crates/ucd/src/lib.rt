@@ -2,6 +2,9 @@
 // gives its code point, or the first of the refusals 20 to 23, 29 and 24.
 //
 // The definitions stand in specs/. Any octets get an answer.
+
+#![tactic(auto)]
+
 mod cases;
 mod fields;
 mod numbers;
@@ -17,14 +20,14 @@ use crate::parts::Parts;
 use terms::CodePoint;
 
 // The properties that are single code points: the code point itself and its titlecase.
-#[derive(Drop)]
+#[derive(Clone, Copy)]
 pub struct SimpleProperties {
     pub code: CodePoint,
     pub title: CodePoint,
 }
 
 // What a line gives, or the number of its refusal.
-#[derive(Drop)]
+#[derive(Clone, Copy)]
 pub enum Reading {
     // The simple properties, and how many parts there are, which stand at the front of a slice.
     Read(SimpleProperties, usize),

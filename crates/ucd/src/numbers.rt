@@ -6,7 +6,7 @@ ghost use Rattle.ucd.specs.Promises.{number_read, digit_read};
 use terms::CodePoint;
 
 // The code point that octets write.
-#[derive(Drop)]
+#[derive(Clone, Copy)]
 pub enum Number {
     Value(CodePoint),
     // None: another octet than a digit, too few or too many, a leading zero, or a value above 10FFFF hex.
@@ -14,7 +14,7 @@ pub enum Number {
 }
 
 // The value that an octet has as a hex digit.
-#[derive(Drop)]
+#[derive(Clone, Copy)]
 pub enum Digit {
     Value(u32),
     // The octet is no digit.

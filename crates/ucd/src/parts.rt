@@ -12,7 +12,7 @@ use crate::{fields, numbers};
 const SPACE: u8 = 0x20;
 
 // What field 5 says: how many parts were written to the lent slice.
-#[derive(Drop)]
+#[derive(Clone, Copy)]
 pub enum Parts {
     Count(usize),
     // No list of 1 to PARTS_MOST code points with single spaces between.

@@ -1,5 +1,8 @@
 // UTF-8 (RFC 3629): characters out of octets, and code points into octets. Judging a text asks nothing of the caller, reading
 // that a character stands there, writing a code point of at most 10FFFF hex and room.
+
+#![tactic(auto)]
+
 mod judging;
 mod sequences;
 
@@ -12,7 +15,7 @@ ghost use Rattle.utf8.specs.Promises.{character_of, Written};
 use terms::{CodePoint, TextPosition};
 
 // A character that was read: its code point, and how many octets it takes.
-#[derive(Drop)]
+#[derive(Clone, Copy)]
 pub struct DecodedCharacter {
     pub code: CodePoint,
     pub width: usize,

@@ -2,6 +2,9 @@
 // call that the C interface leaves out). What is printed must be the file stdout beside this folder. Document 01's examples
 // are proved of the definitions by the crate starred, and run with the edges of every refusal by tests/compare, beside the
 // second program.
+
+#![tactic(auto)]
+
 mod keys;
 mod print;
 mod shapes;

@@ -1,0 +1,13 @@
+-- `octets::compare_from` meets its contract. The loop's invariant: `i` is within both slices, and the order is that of what
+-- follows `i` in each. The measure is what is left of the first.
+-- Assumes nothing.
+use Prim.Native.Nat.{◌-◌, ◌≤◌}
+use lib.ListN.{length}
+use Rattle.octets.proofs.Numbers.{SameFrom}
+use Rattle.octets.proofs.compare_from.Given as goal
+
+abbrev pub invariant-loop-i : goal.invariant-loop-i
+invariant-loop-i l = (l.i ≤ length l.a) × (l.i ≤ length l.b) × SameFrom l.a l.b l.from l.i
+
+abbrev pub decreases-loop-i : goal.decreases-loop-i
+decreases-loop-i l = length l.a - l.i
