@@ -3,15 +3,13 @@
 use mathlib.Core.Path.{◌≡◌, refl, sym, ap, ◌∙◌}
 use mathlib.Core.Option.{Option, none, some}
 use mathlib.Core.List.{[]}
-use borrow.Author.Rules.{rules}
 use Rattle.terms.specs.Lists.{or_else}
 use Rattle.terms.specs.Refusals.{refused, answer, check_outcome}
 use Rattle.terms.specs.declared.Refusal.{Refusal}
 use Rattle.terms.proofs.Checks.{answer-given}
 use Rattle.table.specs.Table.{Table, table, refused_at, form_refusal}
 use Rattle.decompose.specs.TableCheck.{level_fault, table_refusal, table_answer}
-use Rattle.decompose.proofs.check_table.Statement.{statement}
-use Rattle.decompose.proofs.check_table.Tie as tie
+use Rattle.decompose.proofs.check_table.Goals as goal
 
 -- a table of the form: 7 decides
 answer-levels : (t : Table) → form_refusal t ≡ none
@@ -34,44 +32,16 @@ answer-form t r e = go (form_refusal t) e
     go none q = cc
     go (some s) q = q
 
--- where the form was looked at: the table; and where it was passed, that the table has it
-abbrev lent : tie.After-check-form → Table
-lent c = let a = c.before.before.before.args in table a.entries.now a.pool.now
-
-form : (c : tie.After-enum-told) → form_refusal (lent c.before.before) ≡ none
-form c = answer-given _ _ _ (sym (ap check_outcome c.enum_told.given.1) ∙ c.before.before.check-form.ensures)
-
-check-form-requires : tie.Need-check-form-requires
-check-form-requires c κs = search rules
-
-enum_told : tie.Need-enum-told
-enum_told c = search rules
-
--- the table has the form
-check-levels-requires : tie.Need-check-levels-requires
-check-levels-requires c κs = form c
-
-enum-known-form : tie.Need-enum-known-form
-enum-known-form c = search rules
-
 -- the levels decide
-returns : tie.Need-returns
-returns c = c.check-levels.ensures ∙ answer-levels (lent c.before.before.before) (form c.before)
+pub returns-in-Passed : goal.returns-in-Passed
+returns-in-Passed c =
+    let form : form_refusal ((let a = c.args in table a.entries.now a.pool.now)) ≡ none =
+        answer-given _ _ _ (sym (ap check_outcome c.in-Passed.is) ∙ c.check_form-form.ensures) in
+    c.check_levels.ensures ∙ answer-levels ((let a = c.args in table a.entries.now a.pool.now)) (form )
 
 -- refused for its form
-returns-2 : tie.Need-returns-2
-returns-2 c =
-    let checked = c.before.before.before in
-    answer-form (lent checked) _
-    (sym (ap check_outcome c.before.form.given.1) ∙ checked.check-form.ensures)
-
-pub check-table-spec : {M : Type 1} → statement M
-check-table-spec =
-    tie.close
-    (tie.spec
-    check-form-requires
-    enum_told
-    check-levels-requires
-    enum-known-form
-    returns
-    returns-2)
+pub returns-in-Refused : goal.returns-in-Refused
+returns-in-Refused c =
+    let checked = c in
+    answer-form ((let a = c.args in table a.entries.now a.pool.now)) _
+    (sym (ap check_outcome c.in-Refused.is) ∙ checked.check_form-form.ensures)
