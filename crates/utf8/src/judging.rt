@@ -21,6 +21,7 @@ pub fn judge(text: &[u8]) -> bool
 
 // The row of an octet: at the place of each state, six bits with the place of the state that the octet leads to. All arms are
 // constants, one for each octet, so that the match compiles to one load.
+#[tactic(auto, unfolding(crate::specs::Judging::row_of, terms::specs::Lists::total, crate::specs::Judging::after_first))]
 fn row_of(octet: u8) -> u64
     ensures { result ≡ row_of octet }
 {
