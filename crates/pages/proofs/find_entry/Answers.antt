@@ -24,7 +24,7 @@ returns-then-not-has_bit c =
         paged-place c.args.entries.now (formed-ascending ((table c.args.entries.now c.args.pool.now)) c.requires.findable.form) c.requires.findable.paged c.args.c.0
     (omega (arith, scalar-most c.args.c.0 c.requires.c_value)) in
     let s = c in
-    let clear = sym c.has_bit.ensures ∙ not-true _ c.if-not-has_bit.true in
+    let clear = sym c.has_bit.ensures ∙ c.if-not-has_bit.true in
     sym (paged_place-no ((pages c.args.presence.now c.args.ranks.now)) s.args.c.0 clear) ∙ place
 
 -- a sum of two small numbers
@@ -52,7 +52,7 @@ returns c =
         paged-place c.args.entries.now (formed-ascending ((table c.args.entries.now c.args.pool.now)) c.requires.findable.form) c.requires.findable.paged c.args.c.0
     (omega (arith, scalar-most c.args.c.0 c.requires.c_value)) in
     let s = c in
-    let set = sym c.has_bit.ensures ∙ not-false _ c.if-not-has_bit.false in
+    let set = sym c.has_bit.ensures ∙ c.if-not-has_bit.false in
     ap (λ (n : ℕ). some (get_or s.args.ranks.now (s.args.c.0 / page_size) 0 + n)) c.ones_below.ensures
     ∙ sym (paged_place-yes ((pages c.args.presence.now c.args.ranks.now)) s.args.c.0 set)
     ∙ place
