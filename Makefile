@@ -3,9 +3,9 @@
 .PHONY: report test help pairs lib check bench clean
 CRATE ?=
 export CRATE
-# the crates of the C interface, each an archive of its own that the library joins
-EXPORTS := mz_tables mz_texts mz_records mz_lists mz_many
-CRATES := sed -n 's/^\([a-z0-9_]*\):.*/\1/p' crates.txt
+# the crates that export the C interface, each an archive of its own that the library joins
+EXPORTS := mz_tables_c mz_texts_c mz_records_c mz_lists_c mz_many_c
+CRATES := sed -nE 's/^([a-z0-9_]+)( staticlib)?:.*/\1/p' crates.txt
 
 # Status 1 says that the lists share names, as those of the sample do.
 report: lib ## what `make` alone does: build the library as `make lib`, and show which names the two lists of the sample share
@@ -21,14 +21,14 @@ help: ## print these lines
 pairs: ## prove and build the program `pairs`, and run it on the sample
 	@mkdir -p build
 	@echo 'proving and building pairs (a few minutes the first time; build/pairs.log says more)'
-	@rt check pairs > build/pairs.log 2>&1 || { tail -n 20 build/pairs.log; exit 1; }
-	@cd sample && ../target/bin/pairs < storms.txt
+	@(cd crates/pairs && rt run < /dev/null) > build/pairs.log 2>&1 || { tail -n 20 build/pairs.log; exit 1; }
+	@cd sample && ../crates/pairs/out/pairs < storms.txt
 
 lib: ## prove the library, and leave it for C, Rust and Python in build/lib
 	@mkdir -p build/lib
 	@echo 'proving and building the library (a few minutes the first time; build/lib.log says more)'
 	@for crate in $(EXPORTS); do \
-		rt staticlib $$crate || exit 1; \
+		(cd crates/$$crate && rt lib) || exit 1; \
 	done > build/lib.log 2>&1 || { tail -n 20 build/lib.log; exit 1; }
 	@bash bindings/join.sh $(EXPORTS)
 	@echo 'build/lib/libmundeziwa.a and libmundeziwa.so; the headers are in include, what Rust and Python need is in bindings'
@@ -36,11 +36,11 @@ lib: ## prove the library, and leave it for C, Rust and Python in build/lib
 check: ## with CRATE=name: prove that crate and those that it needs
 	@[ -n "$$CRATE" ] || { echo 'say which crate: make check CRATE=utf8 (crates.txt names them)' >&2; exit 2; }
 	@$(CRATES) | grep -qxF "$$CRATE" || { echo "crates.txt has no crate $$CRATE; it has:" $$($(CRATES)) >&2; exit 2; }
-	@rt check "$$CRATE"
+	@cd "crates/$$CRATE" && rt check
 
 bench: lib ## names, records, lists, the search and the report beside other programs, in one run
 	@mkdir -p build/bench
-	@rt staticlib bench_find > build/bench/bench_find.log 2>&1 || { tail -n 20 build/bench/bench_find.log; exit 1; }
+	@(cd crates/bench_find && rt lib) > build/bench/bench_find.log 2>&1 || { tail -n 20 build/bench/bench_find.log; exit 1; }
 	@bash bench/build.sh
 	@./build/bench/occurrence
 	@echo
@@ -52,6 +52,6 @@ bench: lib ## names, records, lists, the search and the report beside other prog
 	@echo
 	@python3 bench/report.py
 
-clean: ## remove all that the others make: target, build, and the folders of cargo and Python
-	@rm -rf target build bindings/rust/target tests/*/target bench/*/target
+clean: ## remove all that the others make: out in each crate, build, and the folders of cargo and Python
+	@rm -rf crates/*/out build bindings/rust/target tests/*/target bench/*/target
 	@find bindings tests bench -name __pycache__ -prune -exec rm -rf {} +

@@ -70,7 +70,7 @@ add_library icu unicode/unorm2.h icuuc libicu-dev
 add_icu_casefold
 add_library utf8proc utf8proc.h utf8proc libutf8proc-dev
 add_library unistring uninorm.h unistring libunistring-dev
-cc -O3 -Wall -Wextra -o "$out/occurrence" bench/occurrence.c target/staticlib/libbench_find.a
+cc -O3 -Wall -Wextra -o "$out/occurrence" bench/occurrence.c crates/bench_find/out/libbench_find.a
 cc -O3 -Wall -Wextra -o "$out/records" bench/records.c bench/straight_records.c "$archive"
 cc -O3 -Wall -Wextra "${list_flags[@]}" -o "$out/lists" "${lists[@]}" "$archive"
 cc -O3 -Wall -Wextra "${flags[@]}" -o "$out/names" "${sources[@]}" "${libraries[@]}"

@@ -1,7 +1,7 @@
 #!/usr/bin/env bash
 # One library out of the archives of the named crates: build/lib/libmundeziwa.a, and libmundeziwa.so.N with its link name
-# libmundeziwa.so, N being MZ_INTERFACE of the header. Each archive of target/staticlib has one object, named as its crate, in
-# which nothing but the exported calls can be seen from outside.
+# libmundeziwa.so, N being MZ_INTERFACE of the header. Each crate's archive, which `rt lib` leaves in its folder out/, has
+# one object, named as the crate, in which nothing but the exported calls can be seen from outside.
 set -euo pipefail
 cd "$(dirname "$0")/.."
 
@@ -11,9 +11,9 @@ interface=$(sed -n 's/^#define MZ_INTERFACE \([0-9][0-9]*\)$/\1/p' include/munde
 
 objects=()
 for crate in "$@"; do
-    [ "$(ar t "target/staticlib/lib$crate.a")" = "$crate.o" ] \
+    [ "$(ar t "crates/$crate/out/lib$crate.a")" = "$crate.o" ] \
         || { echo "lib$crate.a has other objects than $crate.o" >&2; exit 1; }
-    (cd "$OUT" && ar x "../../target/staticlib/lib$crate.a")
+    (cd "$OUT" && ar x "../../crates/$crate/out/lib$crate.a")
     objects+=("$OUT/$crate.o")
 done
 rm -f "$OUT"/libmundeziwa.*

@@ -1,6 +1,6 @@
 #!/usr/bin/env bash
-# The program `pairs` as its user meets it: tests/pairs.py runs target/bin/pairs, which `rt ci` and `make pairs` leave, on a
-# table of cases.
+# The program `pairs` as its user meets it: tests/pairs.py runs crates/pairs/out/pairs, which `make pairs` leaves, on a table of
+# cases.
 set -euo pipefail
 cd "$(dirname "$0")/.."
 
@@ -9,7 +9,7 @@ fail() {
     exit 1
 }
 
-readonly PROGRAM="$PWD/target/bin/pairs"
+readonly PROGRAM="$PWD/crates/pairs/out/pairs"
 command -v python3 > /dev/null || fail "python3 is missing"
 [ -x "$PROGRAM" ] || fail "no $PROGRAM: make pairs builds it"
 python3 tests/pairs.py "$PROGRAM"

@@ -2,7 +2,7 @@
 # README.md as a newcomer takes it: `make` shows the report that it shows; its Python program, its C program, compiled strictly,
 # its Rust programs, in a crate with its line for Cargo.toml, and `pairs` print what it says; the file of records has the octets
 # that it shows; its commands are those of `make help` and of `mundeziwa --help`, and its crates those of crates.txt.
-# Needs build/lib, which `make lib` leaves; target/bin/pairs is left by `make pairs` and by `rt ci`.
+# Needs build/lib, which `make lib` leaves, and crates/pairs/out/pairs, which `make pairs` leaves.
 set -euo pipefail
 cd "$(dirname "$0")/.."
 
@@ -87,10 +87,10 @@ fi
 printed=$(run_rust lists)
 same 'the program on lists prints something else' "$(block 'Which names two lists share' text)" "$printed"
 
-[ -x target/bin/pairs ] || fail 'target/bin/pairs is not there: make pairs'
+[ -x crates/pairs/out/pairs ] || fail 'crates/pairs/out/pairs is not there: make pairs'
 # README.md adds the names after two spaces
 said=$(sed -n '/^    collation /,/^    pairs /{s/^    //;s/  .*//;p}' README.md)
-same 'pairs prints something else' "$said" "$(cd sample && ../target/bin/pairs < storms.txt)"
+same 'pairs prints something else' "$said" "$(cd sample && ../crates/pairs/out/pairs < storms.txt)"
 
 commands=$(sed -n 's/^    \(make [a-z]*  *[a-z].*\)/\1/p' README.md)
 same 'README.md and make help have different commands' "$(make -s help)" "$commands"
@@ -101,6 +101,6 @@ same 'README.md and mundeziwa --help have different parts' "$parts" \
     "$(run_python -m mundeziwa --help | tr -s ' \n' ' ' | sed 's/.* parts: PART //;s/examples: .*//')"
 
 crates=$(awk -F '|' '/^\| Crate/ { inside = 1; getline; next } !/^\|/ { inside = 0 } inside { print $2 }' README.md)
-same 'README.md and crates.txt have different crates' "$(sed -n 's/^\([a-z0-9_]*\):.*/\1/p' crates.txt | sort)" \
+same 'README.md and crates.txt have different crates' "$(sed -nE 's/^([a-z0-9_]+)( staticlib)?:.*/\1/p' crates.txt | sort)" \
     "$(tr -d ' ' <<< "$crates" | tr , '\n' | sort)"
 echo 'readme: what README.md says of its programs, commands and crates holds'

@@ -1,5 +1,5 @@
 #!/usr/bin/env bash
-# The whole check: `rt ci` from nothing, then the tests that need no proof.
+# The whole check: `rt ci`, then the library, and the tests of it and of the program.
 # The last line of `rt ci` is held back and printed last, only if everything passed.
 set -u
 cd "$(dirname "$0")/.." || exit 1
@@ -20,13 +20,22 @@ need_pandas || fail 'no Python with pandas'
 need_ensurepip || fail 'no Python that can install pip'
 
 verdict=$(mktemp)
+counted=$(mktemp)
 fuzzed=$(mktemp)
-trap 'rm -f "$verdict" "$fuzzed"' EXIT
-rt ci 2>&1 | awk -v verdict="$verdict" 'NR > 1 { print last; fflush() } { last = $0 } END { print last > verdict }'
+trap 'rm -f "$verdict" "$counted" "$fuzzed"' EXIT
+rt ci 2>&1 | awk -v verdict="$verdict" -v counted="$counted" '
+    NR > 1 { print last; fflush() }
+    /^rt: ok;/ { print > counted }
+    { last = $0 }
+    END { print last > verdict }'
 [ "${PIPESTATUS[0]}" -eq 0 ] || fail 'rt ci'
 grep -Eqx '[0-9]+ passed, 0 failed' "$verdict" || fail "rt ci ended with: $(cat "$verdict")"
+# An edit that can't be applied fails nothing there, and must here: it shows nothing of a contract.
+grep -Eq '; must-fail edits: [1-9][0-9]* refused' "$counted" || fail 'rt ci does not say that it tried the must-fail edits'
+! grep -Eq ', [1-9][0-9]* bad' "$counted" || fail "rt ci has bad must-fail edits: $(cat "$counted")"
+# It leaves the program that it ran; where it doesn't, this builds it.
+[ -x crates/pairs/out/pairs ] || make pairs > /dev/null || fail 'make pairs'
 
-rt fmt --check || fail 'rt fmt --check: a file is not in the layout (mend with: rt fmt)'
 bash tests/specification.sh || fail 'tests/specification.sh: docs/SPECIFICATION.md and the definitions differ'
 bash tests/library.sh || fail 'tests/library.sh: the library does not answer C or Rust as it should'
 bash tests/python.sh || fail 'tests/python.sh: the Python package or the command does not answer as it should'

@@ -4,7 +4,8 @@
 - A definition stands in specs/ or src/; what shows a claim stands in proofs/, must-fail/ or tests/.
 - Every file of specs/ is named, and every theorem of Demand1.antt to Demand3.antt, Document01.antt, Request01.antt and on, and
   Bulk.antt, of crates/demands/proofs.
-- The statements of these theorems, and the files of specs/, use nothing that is defined in proofs/.
+- The statements of these theorems, and the files of specs/, use nothing that is defined in proofs/ of a crate here. (Rattle's own
+  library has some of its definitions, as Option, in modules named so.)
 - Every edit of crates/*/must-fail is named in docs/CONTRACTS.md.
 
 Prints each fault, and exits 1 if there is one. Run by tests/specification.sh, in the folder above.
@@ -21,6 +22,8 @@ PROOFS = CRATES / "demands" / "proofs"
 STATED = r"Demand\d|Document01|Request\d\d\w*|Bulk"
 DEMANDS = [PROOFS / f"{name}.antt" for name in ("Demand1", "Demand2", "Demand3", "Document01", "Bulk")]
 DEMANDS += sorted(PROOFS.glob("Request*.antt"))
+# a module of proofs/ of a crate here
+OF_PROOFS = r"(?!Rattle\.std\.)\S+?\.proofs\."
 faults = []
 
 
@@ -136,18 +139,18 @@ def words(statement):
 def defined_in_proofs(file, text):
     """The names that a file has from proofs/ or declares itself."""
     names = {}
-    for module, imported in re.findall(r"^(?:pub )?use (\S+?\.proofs\.\S+?)\.\{([^}]*)\}", text, re.MULTILINE):
+    for module, imported in re.findall(rf"^(?:pub )?use ({OF_PROOFS}\S+?)\.\{{([^}}]*)\}}", text, re.MULTILINE):
         for name in imported.split(","):
-            # an operator is listed as _+_ and used as +
-            names[name.split(" as ")[-1].strip().strip("_")] = module
-    for module, name in re.findall(r"^(?:pub )?use (\S+\.proofs\.[^\s{]+)(?: as (\S+))?$", text, re.MULTILINE):
+            # an operator is listed as ◌+◌ and used as +
+            names[name.split(" as ")[-1].strip().strip("◌")] = module
+    for module, name in re.findall(rf"^(?:pub )?use ({OF_PROOFS}[^\s{{]+)(?: as (\S+))?$", text, re.MULTILINE):
         if name:
             names[name] = module
         else:
             faults.append(f"{file} uses all of {module}: the names are to be listed")
     declared = r"^ *(?:(?:abbrev|unfoldable|pub) )*(?:(?:data|record) (\S+)|(\S+)(?: \{[^}]*\})* :)"
     for shape, name in re.findall(declared, text, re.MULTILINE):
-        names.setdefault((shape or name).strip("_"), str(file))
+        names.setdefault((shape or name).strip("◌"), str(file))
     return names
 
 
@@ -161,7 +164,7 @@ def check_statements():
                 if module:
                     faults.append(f"{file}: {name} speaks of {word}, which is defined in {module}")
     for file in sorted(CRATES.glob("*/specs/*.antt")):
-        for module in re.findall(r"^(?:pub )?use (\S+\.proofs\.\S*)", file.read_text(), re.MULTILINE):
+        for module in re.findall(rf"^(?:pub )?use ({OF_PROOFS}\S*)", file.read_text(), re.MULTILINE):
             faults.append(f"{file} uses {module}")
 
 

@@ -1,5 +1,5 @@
 // The calls of the C interface on lists (include/mundeziwa.h, include/mundeziwa_accepted.h): each function calls one of the
-// library's and stores the answer as a row of numbers.
+// library's and stores the answer as a row of numbers. mz_lists_c exports them.
 //
 // `mz_find_shared` takes any arguments at all; its twin asks for a table that is accepted already and its pages. That pointers and lengths
 // are what the header says of them is the C caller's part: no proof sees it.
@@ -18,8 +18,7 @@ ghost use Rattle.mz_lists.specs.Promises.{SharesRow, SharesRowPaging};
 use lists::Shared;
 
 // Finds which names two lists share.
-#[unsafe(no_mangle)]
-pub extern "C" fn mz_find_shared(
+pub fn mz_find_shared(
     collation: u32,
     first: &[u8],
     second: &[u8],
@@ -45,8 +44,7 @@ pub extern "C" fn mz_find_shared(
 }
 
 // As `mz_find_shared`, over a table that is accepted already, with its pages.
-#[unsafe(no_mangle)]
-pub extern "C" fn mz_find_shared_accepted(
+pub fn mz_find_shared_accepted(
     collation: u32,
     first: &[u8],
     second: &[u8],

@@ -1,5 +1,5 @@
 // The calls of the C interface on records (include/mundeziwa.h): each function calls one of the library's and stores the answer
-// as a row of numbers.
+// as a row of numbers. mz_records_c exports them.
 //
 // All take any arguments at all. That pointers and lengths are what the header says of them is the C caller's part: no proof
 // sees it.
@@ -19,8 +19,7 @@ use rows::{reading_row, writing_row};
 use terms::RecordPosition;
 
 // Reads the record at a position.
-#[unsafe(no_mangle)]
-pub extern "C" fn mz_read_record(records: &[u8], position: u64, answer: &mut [u64; 9])
+pub fn mz_read_record(records: &[u8], position: u64, answer: &mut [u64; 9])
     ensures { answer.new ≡ row 6 (reading_outcome (read_at rules records.now position)) }
 {
     let read = records::read_record(records, RecordPosition(position as usize));
@@ -28,13 +27,7 @@ pub extern "C" fn mz_read_record(records: &[u8], position: u64, answer: &mut [u6
 }
 
 // Writes the record of a text at a position.
-#[unsafe(no_mangle)]
-pub extern "C" fn mz_write_text(
-    text: &[u8],
-    records: &mut [u8],
-    position: u64,
-    answer: &mut [u64; 4],
-)
+pub fn mz_write_text(text: &[u8], records: &mut [u8], position: u64, answer: &mut [u64; 4])
     ensures { WritesRow (of_text text.now) position records.old answer.new
         records.new }
 {
@@ -43,8 +36,7 @@ pub extern "C" fn mz_write_text(
 }
 
 // Writes the record of a key at a position.
-#[unsafe(no_mangle)]
-pub extern "C" fn mz_write_key(
+pub fn mz_write_key(
     collation: u32,
     valid: u64,
     text_length: u64,

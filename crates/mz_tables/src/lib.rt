@@ -1,5 +1,5 @@
 // The calls of the C interface on a table (include/mundeziwa.h), and its number: each function calls one of the library's and
-// stores the answer as a row of numbers.
+// stores the answer as a row of numbers. mz_tables_c exports them.
 //
 // All take any arguments at all. That pointers and lengths are what the header says of them is the C caller's part: no proof
 // sees it.
@@ -22,16 +22,14 @@ use rows::{check_row, line_row};
 pub const INTERFACE: u32 = 2;
 
 // The number of the interface.
-#[unsafe(no_mangle)]
-pub extern "C" fn mz_interface() -> u32
+pub fn mz_interface() -> u32
     ensures { result ≡ interface_number }
 {
     INTERFACE
 }
 
 // Whether a table is accepted.
-#[unsafe(no_mangle)]
-pub extern "C" fn mz_check_table(entries: &[u32], pool: &[u32], answer: &mut [u64; 3])
+pub fn mz_check_table(entries: &[u32], pool: &[u32], answer: &mut [u64; 3])
     ensures { answer.new ≡ row 0 (table_answer (table entries.now pool.now)) }
 {
     let check = decompose::check_table(entries, pool);
@@ -39,8 +37,7 @@ pub extern "C" fn mz_check_table(entries: &[u32], pool: &[u32], answer: &mut [u6
 }
 
 // Adds one line of UnicodeData.txt, without its line end, to a table that is being built.
-#[unsafe(no_mangle)]
-pub extern "C" fn mz_add_line(
+pub fn mz_add_line(
     entries_used: u64,
     pool_used: u64,
     next: u64,

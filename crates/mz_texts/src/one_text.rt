@@ -10,8 +10,7 @@ ghost use Rattle.mz_texts.specs.Promises.{RowAnswered, RowPaging};
 use crate::rows::preparation_row;
 
 // Prepares a text under a collation: its key is left at the start of the key buffer, if it belongs there.
-#[unsafe(no_mangle)]
-pub extern "C" fn mz_prepare(
+pub fn mz_prepare(
     collation: u32,
     text: &[u8],
     entries: &[u32],
@@ -31,8 +30,7 @@ pub extern "C" fn mz_prepare(
 }
 
 // As `mz_prepare`, over a table that is accepted already, with its pages.
-#[unsafe(no_mangle)]
-pub extern "C" fn mz_prepare_accepted(
+pub fn mz_prepare_accepted(
     collation: u32,
     text: &[u8],
     entries: &[u32],

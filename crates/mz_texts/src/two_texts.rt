@@ -11,8 +11,7 @@ ghost use Rattle.mz_texts.specs.Promises.{RowAnswered, RowPaging};
 use crate::rows::{equality_row, order_row, substring_row};
 
 // Whether two texts are equal under a collation.
-#[unsafe(no_mangle)]
-pub extern "C" fn mz_equal(
+pub fn mz_equal(
     collation: u32,
     first: &[u8],
     second: &[u8],
@@ -36,8 +35,7 @@ pub extern "C" fn mz_equal(
 }
 
 // How two texts are ordered under a collation.
-#[unsafe(no_mangle)]
-pub extern "C" fn mz_order(
+pub fn mz_order(
     collation: u32,
     first: &[u8],
     second: &[u8],
@@ -61,8 +59,7 @@ pub extern "C" fn mz_order(
 }
 
 // Seeks the first text in the second under a collation.
-#[unsafe(no_mangle)]
-pub extern "C" fn mz_substring(
+pub fn mz_substring(
     collation: u32,
     first: &[u8],
     second: &[u8],
@@ -86,8 +83,7 @@ pub extern "C" fn mz_substring(
 }
 
 // As `mz_equal`, over a table that is accepted already, with its pages.
-#[unsafe(no_mangle)]
-pub extern "C" fn mz_equal_accepted(
+pub fn mz_equal_accepted(
     collation: u32,
     first: &[u8],
     second: &[u8],
@@ -111,8 +107,7 @@ pub extern "C" fn mz_equal_accepted(
 }
 
 // As `mz_order`, over a table that is accepted already, with its pages.
-#[unsafe(no_mangle)]
-pub extern "C" fn mz_order_accepted(
+pub fn mz_order_accepted(
     collation: u32,
     first: &[u8],
     second: &[u8],
@@ -136,8 +131,7 @@ pub extern "C" fn mz_order_accepted(
 }
 
 // As `mz_substring`, over a table that is accepted already, with its pages.
-#[unsafe(no_mangle)]
-pub extern "C" fn mz_substring_accepted(
+pub fn mz_substring_accepted(
     collation: u32,
     first: &[u8],
     second: &[u8],
