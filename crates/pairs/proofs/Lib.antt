@@ -1,3 +1,1 @@
-pub mod Going
-pub mod Lines
-pub mod Taken
+mod Taken

@@ -1,10 +1,8 @@
 -- A line that the builder takes leaves a state whose entries and pool numbers lie within the slices; a table that passes the
 -- check is accepted.
 -- Assumes nothing.
-use mathlib.Core.Path.{◌≡◌, sym, ◌∙◌, ap, subst}
-use Prim.Native.Nat.{ℕ}
-use mathlib.Core.Option.{none}
-use mathlib.Core.List.{List}
+use Rattle.std.proofs.Common.{◌≡◌, sym, ◌∙◌, ap, subst, ℕ, List}
+use Rattle.std.proofs.Math.Option.{none}
 use Rattle.terms.specs.Refusals.{check_refusal, check_outcome}
 use Rattle.terms.specs.declared.Check.{Check}
 use Rattle.terms.specs.declared.Check.TheVariants.{Passed}

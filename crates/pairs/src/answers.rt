@@ -9,6 +9,10 @@ ghost use Rattle.pairs.specs.Reading.{Stands, Answers, lines_most};
 use crate::reader::{Next, Reader};
 use crate::{output, reader};
 use compare::Ordered;
+use std::io::{Read, Write};
+
+// Room for what is printed, in octets, before it is written.
+const OUTPUT_OCTETS: usize = 65536;
 
 // Room for a key, in octets.
 const KEY_OCTETS: usize = 12288;
@@ -23,8 +27,9 @@ pub enum Answered {
 }
 
 // Answers every line of an input: the heading, a line for each, and the count.
-pub fn answer_all(
-    fd: i32,
+pub fn answer_all<R: Read, W: Write>(
+    input: &mut R,
+    printed: &mut W,
     buffer: &mut [u8],
     entries: &[u32],
     pool: &[u32],
@@ -33,11 +38,12 @@ pub fn answer_all(
 )
     requires { Usable (table entries.now pool.now) (pages presence.now ranks.now) }
 {
-    let mut out = io::large_buffer();
+    let mut out = [0u8; OUTPUT_OCTETS];
     let mut first_key = [0u8; KEY_OCTETS];
     let mut second_key = [0u8; KEY_OCTETS];
     answer_lines(
-        fd,
+        input,
+        printed,
         buffer,
         entries,
         pool,
@@ -50,8 +56,9 @@ pub fn answer_all(
 }
 
 // The same, with the key buffers and the output buffer lent.
-fn answer_lines(
-    fd: i32,
+fn answer_lines<R: Read, W: Write>(
+    input: &mut R,
+    printed: &mut W,
     buffer: &mut [u8],
     entries: &[u32],
     pool: &[u32],
@@ -68,11 +75,11 @@ fn answer_lines(
     let mut count: u64 = 0;
     loop {
         let answered = answer_next(
-            fd, buffer, reader, entries, pool, presence, ranks, first_key, second_key,
+            input, buffer, reader, entries, pool, presence, ranks, first_key, second_key,
         );
         match answered {
             Answered::Answer(answer, rest) => {
-                output = output::add_answer(answer, out, output);
+                output = output::add_answer(printed, answer, out, output);
                 if output.failed {
                     return;
                 }
@@ -83,7 +90,7 @@ fn answer_lines(
                 reader = rest;
             }
             Answered::End => {
-                output::finish(count, out, output);
+                output::finish(printed, count, out, output);
                 return;
             }
         }
@@ -91,8 +98,8 @@ fn answer_lines(
 }
 
 // The answer for the next line.
-fn answer_next(
-    fd: i32,
+fn answer_next<R: Read>(
+    input: &mut R,
     buffer: &mut [u8],
     reader: Reader,
     entries: &[u32],
@@ -105,7 +112,7 @@ fn answer_next(
     requires { Stands (length buffer.old) reader × Usable (table entries.now pool.now) (pages presence.now ranks.now) }
     ensures { Answers (length buffer.old) reader.left result }
 {
-    let next = reader::next_line(fd, buffer, reader);
+    let next = reader::next_line(input, buffer, reader);
     match next {
         Next::Line(start, end, rest) => {
             let line = &buffer[start..end];

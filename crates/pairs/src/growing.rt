@@ -7,6 +7,9 @@ ghost use Rattle.pairs.specs.Reading.{Stands, Goes, GrownFits, AddedFits};
 use crate::reader;
 use crate::reader::{Next, Reader};
 use builder::{Line, LineState};
+use std::fs::File;
+use std::io::Read;
+use std::rt::Files;
 
 // The number for a file that can't be read.
 const UNREADABLE: u32 = 0;
@@ -27,20 +30,24 @@ pub enum Added {
 }
 
 // Adds the lines of a file to a fresh table.
-pub fn grow_from(path: &[u8], buffer: &mut [u8], entries: &mut [u32], pool: &mut [u32]) -> Grown
+pub fn grow_from<F: Files>(
+    files: &F,
+    path: &str,
+    buffer: &mut [u8],
+    entries: &mut [u32],
+    pool: &mut [u32],
+) -> Grown
     ensures { GrownFits entries.new pool.new result }
 {
-    let fd = os::open_read(path);
-    if fd < 0 {
-        return Grown::Refused(UNREADABLE);
+    let opened = File::open(files, path);
+    match opened {
+        Ok(mut file) => grow(&mut file, buffer, entries, pool),
+        Err(_) => Grown::Refused(UNREADABLE),
     }
-    let grown = grow(fd, buffer, entries, pool);
-    libc::close(fd);
-    grown
 }
 
 // Adds all lines.
-fn grow(fd: i32, buffer: &mut [u8], entries: &mut [u32], pool: &mut [u32]) -> Grown
+fn grow<R: Read>(input: &mut R, buffer: &mut [u8], entries: &mut [u32], pool: &mut [u32]) -> Grown
     ensures { GrownFits entries.new pool.new result }
 {
     let mut reader = Reader::new();
@@ -50,7 +57,7 @@ fn grow(fd: i32, buffer: &mut [u8], entries: &mut [u32], pool: &mut [u32]) -> Gr
         next: 0,
     };
     loop {
-        let added = add_next(fd, buffer, reader, state, entries, pool);
+        let added = add_next(input, buffer, reader, state, entries, pool);
         match added {
             Added::Taken(s, rest) => {
                 state = s;
@@ -64,8 +71,8 @@ fn grow(fd: i32, buffer: &mut [u8], entries: &mut [u32], pool: &mut [u32]) -> Gr
 }
 
 // Adds the next line.
-fn add_next(
-    fd: i32,
+fn add_next<R: Read>(
+    input: &mut R,
     buffer: &mut [u8],
     reader: Reader,
     state: LineState,
@@ -75,7 +82,7 @@ fn add_next(
     requires { Stands (length buffer.old) reader × UsedFits (built state entries.old pool.old) }
     ensures { AddedFits (length buffer.old) reader.left entries.new pool.new result }
 {
-    let next = reader::next_line(fd, buffer, reader);
+    let next = reader::next_line(input, buffer, reader);
     match next {
         Next::Line(start, end, rest) => add_read(&buffer[start..end], rest, state, entries, pool),
         Next::Long(_) => Added::Done(Grown::Refused(terms::REFUSED_LINE_LENGTH)),

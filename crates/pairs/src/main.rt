@@ -20,54 +20,93 @@ ghost use Rattle.builder.specs.Promises.{UsedFits};
 
 use crate::growing::Grown;
 use builder::LineState;
-use libc::STDIN_FILENO;
+use std::io::{Read, Write};
+use std::rt::Files;
 use terms::Check;
+
+// Room for what is read of an input at once, in octets.
+const INPUT_OCTETS: usize = 65536;
 
 // Room for the table: 1,024 entries, and 2,048 pool numbers.
 const ENTRY_NUMBERS: usize = 1024 * table::layout::ENTRY_WIDTH;
 
 const POOL_NUMBERS: usize = 2048;
 
-fn main() {
-    let mut buffer = io::large_buffer();
+fn main(rt: HostRuntime) {
+    let mut input = rt.stdin();
+    let mut printed = rt.stdout();
+    let mut buffer = [0u8; INPUT_OCTETS];
     let mut entries = [0u32; ENTRY_NUMBERS];
     let mut pool = [0u32; POOL_NUMBERS];
-    build(&mut buffer, &mut entries, &mut pool);
+    build(
+        &rt,
+        &mut input,
+        &mut printed,
+        &mut buffer,
+        &mut entries,
+        &mut pool,
+    );
 }
 
 // Builds the table in the lent slices, and goes on if no line is refused.
-fn build(buffer: &mut [u8], entries: &mut [u32], pool: &mut [u32]) {
-    let grown = growing::grow_from(b"ucd.txt", buffer, entries, pool);
+fn build<F: Files, R: Read, W: Write>(
+    files: &F,
+    input: &mut R,
+    printed: &mut W,
+    buffer: &mut [u8],
+    entries: &mut [u32],
+    pool: &mut [u32],
+) {
+    let grown = growing::grow_from(files, "ucd.txt", buffer, entries, pool);
     match grown {
-        Grown::Table(state) => start(state, buffer, entries, pool),
-        Grown::Refused(number) => output::refuse_table(number),
+        Grown::Table(state) => start(state, input, printed, buffer, entries, pool),
+        Grown::Refused(number) => output::refuse_table(printed, number),
     }
 }
 
 // Cuts the slices to what is used.
-fn start(state: LineState, buffer: &mut [u8], entries: &[u32], pool: &[u32])
+fn start<R: Read, W: Write>(
+    state: LineState,
+    input: &mut R,
+    printed: &mut W,
+    buffer: &mut [u8],
+    entries: &[u32],
+    pool: &[u32],
+)
     requires { UsedFits (built state entries.now pool.now) }
 {
     let used = table::layout::first_entries(entries, state.entries_used);
     let parts = state.pool_used;
-    run(buffer, used, &pool[..parts]);
+    run(input, printed, buffer, used, &pool[..parts]);
 }
 
 // Checks the table once, and answers all lines.
-fn run(buffer: &mut [u8], entries: &[u32], pool: &[u32]) {
+fn run<R: Read, W: Write>(
+    input: &mut R,
+    printed: &mut W,
+    buffer: &mut [u8],
+    entries: &[u32],
+    pool: &[u32],
+) {
     let check = decompose::check_table(entries, pool);
     match check {
-        Check::Passed => answer(buffer, entries, pool),
-        Check::Refused(r) => output::refuse_table(r.number),
+        Check::Passed => answer(input, printed, buffer, entries, pool),
+        Check::Refused(r) => output::refuse_table(printed, r.number),
     }
 }
 
 // Fills the pages of an accepted table, and answers all lines.
-fn answer(buffer: &mut [u8], entries: &[u32], pool: &[u32])
+fn answer<R: Read, W: Write>(
+    input: &mut R,
+    printed: &mut W,
+    buffer: &mut [u8],
+    entries: &[u32],
+    pool: &[u32],
+)
     requires { table_refusal (table entries.now pool.now) ≡ none }
 {
     let mut presence = [0u64; terms::PAGES_MOST];
     let mut ranks = [0u64; terms::PAGES_MOST];
     pages::fill_pages(entries, &mut presence, &mut ranks);
-    answers::answer_all(STDIN_FILENO, buffer, entries, pool, &presence, &ranks);
+    answers::answer_all(input, printed, buffer, entries, pool, &presence, &ranks);
 }

@@ -2,8 +2,10 @@
 //
 // A line ends at 0A, which alone is cut off; a last line without it counts unless it is empty. A line that is longer than the
 // buffer is answered as such, once, as soon as that is known; what is left of it is passed over by the next call.
-ghost use Rattle.std.specs.Prelude.{◌≡◌, ℕ, suc, ◌≤◌, ◌<◌, length};
+ghost use Rattle.std.specs.Prelude.{◌≡◌, ◌≢◌, ℕ, suc, ◌≤◌, ◌<◌, length, slice_index};
 ghost use Rattle.pairs.specs.Reading.{Stands, Goes, Steps, Nexts};
+
+use std::io::Read;
 
 // Ends a line.
 const LINE_FEED: u8 = 0x0A;
@@ -12,7 +14,7 @@ const LINE_FEED: u8 = 0x0A;
 const STEPS_MOST: u64 = 1152921504606846976;
 
 // Where a reader stands.
-#[derive(Drop)]
+#[derive(Clone, Copy)]
 pub struct Reader {
     // In the buffer: where the next line starts, up to where no line end was seen, and where the octets that were read end.
     pub at: usize,
@@ -63,14 +65,14 @@ impl Reader {
 }
 
 // What comes next.
-pub fn next_line(fd: i32, buffer: &mut [u8], reader: Reader) -> Next
+pub fn next_line<R: Read>(input: &mut R, buffer: &mut [u8], reader: Reader) -> Next
     requires { Stands (length buffer.old) reader }
     ensures { Nexts (length buffer.old) reader.left result }
 {
     let mut r = reader;
     while 0 < r.left {
         r.left -= 1;
-        let step = advance(fd, buffer, r);
+        let step = advance(input, buffer, r);
         match step {
             Step::Answer(next) => {
                 return next;
@@ -84,13 +86,13 @@ pub fn next_line(fd: i32, buffer: &mut [u8], reader: Reader) -> Next
 }
 
 // One step: a line of what was read, or else a read.
-fn advance(fd: i32, buffer: &mut [u8], r: Reader) -> Step
+fn advance<R: Read>(input: &mut R, buffer: &mut [u8], r: Reader) -> Step
     requires { Stands (length buffer.old) r }
     ensures { Steps (length buffer.old) (suc r.left) result }
 {
     let seen = r.seen;
     let end = r.end;
-    let stop = bytes::scan::find(buffer, seen, end, LINE_FEED);
+    let stop = find_octet(buffer, seen, end, LINE_FEED);
     if stop < end {
         return cut(r, stop);
     }
@@ -98,7 +100,24 @@ fn advance(fd: i32, buffer: &mut [u8], r: Reader) -> Step
         return Step::Answer(finish(r));
     }
     let ready = make_room(buffer, r);
-    fill(fd, buffer, ready)
+    fill(input, buffer, ready)
+}
+
+// The first place between two places where an octet stands, or the second place.
+fn find_octet(octets: &[u8], from: usize, to: usize, octet: u8) -> usize
+    requires { (from ≤ to) × (to ≤ length octets.now) }
+    ensures between { (from ≤ result) × (result ≤ to) }
+    ensures before { (k : ℕ) → from ≤ k → k < result → slice_index octets.now k ≢ octet }
+    ensures found { result < to → slice_index octets.now result ≡ octet }
+{
+    let mut i = from;
+    while i < to {
+        if octets[i] == octet {
+            return i;
+        }
+        i += 1;
+    }
+    to
 }
 
 // The line that ends at a place, or the end of a line that is passed over.
@@ -178,7 +197,7 @@ fn shift(buffer: &mut [u8], from: usize, to: usize)
 }
 
 // One read behind what is there, if there is room.
-fn fill(fd: i32, buffer: &mut [u8], mut r: Reader) -> Step
+fn fill<R: Read>(input: &mut R, buffer: &mut [u8], mut r: Reader) -> Step
     requires { Stands (length buffer.old) r }
     ensures { Steps (length buffer.old) (suc r.left) result }
 {
@@ -187,13 +206,16 @@ fn fill(fd: i32, buffer: &mut [u8], mut r: Reader) -> Step
         r.skipping = true;
         return Step::Answer(Next::Long(r));
     }
-    let got = libc::read(fd, &mut buffer[end..]);
-    if got < 0 {
-        r.ended = true;
-        return Step::Answer(Next::Failed(r));
+    let got = input.read(&mut buffer[end..]);
+    match got {
+        Ok(count) => {
+            r.ended = count == 0;
+            r.end = end + count;
+            Step::More(r)
+        }
+        Err(_) => {
+            r.ended = true;
+            Step::Answer(Next::Failed(r))
+        }
     }
-    let count = io::count(got, &buffer[end..]);
-    r.ended = count == 0;
-    r.end = end + count;
-    Step::More(r)
 }

@@ -10,7 +10,7 @@ mod print;
 mod shapes;
 mod tables;
 
-fn main() {
-    tables::run();
-    keys::run();
+fn main(rt: HostRuntime) {
+    tables::run(&rt);
+    keys::run(&rt);
 }

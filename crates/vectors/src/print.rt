@@ -1,12 +1,10 @@
-// Words and numbers on standard output.
-use libc::STDOUT_FILENO;
-
-pub fn say(words: &[u8]) {
-    io::write_all(STDOUT_FILENO, words);
+// Words and numbers on standard output. A failed write is passed over.
+pub fn say(rt: &impl Print, words: &[u8]) {
+    let _ = rt.write_all(words);
 }
 
 // A space and a number.
-pub fn say_number(n: u64) {
-    say(b" ");
-    io::print_decimal(STDOUT_FILENO, n);
+pub fn say_number(rt: &impl Print, n: u64) {
+    say(rt, b" ");
+    let _ = rt.print(n);
 }
