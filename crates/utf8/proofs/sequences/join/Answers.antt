@@ -2,7 +2,7 @@
 -- number of octets left. All trail, since the number that they come to is there.
 -- Assumes nothing.
 use mathlib.Core.Path.{sym}
-use Prim.Native.Nat.{◌-◌, ◌<◌}
+use Prim.Native.Nat.{◌<◌}
 use lib.ListN.{length, get_or}
 use Rattle.utf8.proofs.Trailed.{Between, trails-yes}
 use Rattle.utf8.proofs.Joining.{joining-room, joining-next, joining-more, joining-done}
