@@ -12,7 +12,7 @@ use Rattle.bench_find.proofs.bench_find.Goals as goal
 pub overflow_add-result : goal.overflow_add-result
 overflow_add-result c =
     let found : let s = c in occurrence s.args.needle.now s.args.hay.now ≡ some ((c.in-At.place.0)) =
-        sym c.find-found.ensures ∙ ap place_found c.in-At.is in
+    sym c.find-found.ensures ∙ ap place_found c.in-At.is in
     let at = c in
     let s = at in
-    omega (arith, occurrence-within s.args.needle.now s.args.hay.now ((c.in-At.place.0)) (found ), s.well_formed.1.0.1)
+    omega (arith, occurrence-within s.args.needle.now s.args.hay.now ((c.in-At.place.0)) (found), s.well_formed.1.0.1)

@@ -24,36 +24,36 @@ pub returns-then-code-state : goal.returns-then-code-state
 unfolding properties_refusal
 returns-then-code-state c =
     let clean : barred ((with_parts c.args.simple c.args.parts.now)) ≡ false =
-        sym c.is_barred.ensures ∙ c.if-is_barred.false in
+    sym c.is_barred.ensures ∙ c.if-is_barred.false in
     let d = c in
-    rw c.refused-then-code-state.ensures (added_by-refused ((built c.args.state c.args.entries.now c.args.pool.now)) (rw (clean , lt-ltb _ _ c.if-code-state.true)))
+    rw c.refused-then-code-state.ensures (added_by-refused ((built c.args.state c.args.entries.now c.args.pool.now)) (rw (clean, lt-ltb _ _ c.if-code-state.true)))
 
 -- no room
 pub returns-then-is_crowded : goal.returns-then-is_crowded
 unfolding properties_refusal
 returns-then-is_crowded c =
     let above : let s = c in ltb ((with_parts c.args.simple c.args.parts.now)).code ((built c.args.state c.args.entries.now c.args.pool.now)).state.next ≡ false =
-        le-ltb _ _ c.if-code-state.false in
+    le-ltb _ _ c.if-code-state.false in
     let clean : barred ((with_parts c.args.simple c.args.parts.now)) ≡ false =
-        sym c.is_barred.ensures ∙ c.if-is_barred.false in
+    sym c.is_barred.ensures ∙ c.if-is_barred.false in
     let called = c in
     let d = called in
     rw c.refused-then-is_crowded.ensures
     (added_by-refused ((built c.args.state c.args.entries.now c.args.pool.now))
-    (rw (clean , above , ← called.is_crowded.ensures, c.if-is_crowded.true)))
+    (rw (clean, above, ← called.is_crowded.ensures, c.if-is_crowded.true)))
 
 -- none of them
 pub returns : goal.returns
 unfolding properties_refusal
 returns c =
     let above : let s = c in ltb ((with_parts c.args.simple c.args.parts.now)).code ((built c.args.state c.args.entries.now c.args.pool.now)).state.next ≡ false =
-        le-ltb _ _ c.if-code-state.false in
+    le-ltb _ _ c.if-code-state.false in
     let clean : barred ((with_parts c.args.simple c.args.parts.now)) ≡ false =
-        sym c.is_barred.ensures ∙ c.if-is_barred.false in
+    sym c.is_barred.ensures ∙ c.if-is_barred.false in
     let stored = c in
     let e = stored in
     let d = e in
     added_by-taken ((built c.args.state c.args.entries.now c.args.pool.now))
-    (rw (clean , above , ← e.is_crowded.ensures, e.if-is_crowded.false))
+    (rw (clean, above, ← e.is_crowded.ensures, e.if-is_crowded.false))
     refl
     stored.store.ensures

@@ -23,27 +23,27 @@ returns-then-is_impossible c =
 pub returns-in-Read : goal.returns-in-Read
 returns-in-Read c =
     let given : LineRead c.args.line.now ((c.read_line-reading.new.parts)) c.in-Read.simple ((c.in-Read.count)) =
-        subst (Reads c.args.line.now ((c.read_line-reading.new.parts)))
+    subst (Reads c.args.line.now ((c.read_line-reading.new.parts)))
     c.in-Read.is
     c.read_line-reading.ensures in
     let possible : let b = (built c.args.state c.args.entries.now c.args.pool.now) in impossible b.state (entry_count b.table.entries) (length b.table.pool) ≡ false =
-        sym c.is_impossible.ensures ∙ c.if-is_impossible.false in
+    sym c.is_impossible.ensures ∙ c.if-is_impossible.false in
     let called = c in
     let g = called in
     added_by-line
-    (line_refusal-given ((built c.args.state c.args.entries.now c.args.pool.now)) _ (possible ) (given ).unrefused (given ).given)
-    (given ).given
+    (line_refusal-given ((built c.args.state c.args.entries.now c.args.pool.now)) _ (possible) (given).unrefused (given).given)
+    (given).given
     called.add_given.ensures
 
 -- the reading is refused
 pub returns-in-Refused : goal.returns-in-Refused
 returns-in-Refused c =
     let possible : let b = (built c.args.state c.args.entries.now c.args.pool.now) in impossible b.state (entry_count b.table.entries) (length b.table.pool) ≡ false =
-        sym c.is_impossible.ensures ∙ c.if-is_impossible.false in
+    sym c.is_impossible.ensures ∙ c.if-is_impossible.false in
     let g = c in
     let r = g in
     let b = (built c.args.state c.args.entries.now c.args.pool.now) in
     let line = r.args.line.now in
     let read-refused = subst (Reads line ((c.read_line-reading.new.parts))) g.in-Refused.is r.read_line-reading.ensures in
     rw c.refused-in-Refused.ensures
-    (added_by-line (line_refusal-reading b line (possible ) read-refused) refl (added_by-refused b refl))
+    (added_by-line (line_refusal-reading b line (possible) read-refused) refl (added_by-refused b refl))

@@ -24,11 +24,11 @@ use Rattle.decompose.proofs.+size_unfolded.Goals.{then-not-decomposes, else-not-
 pub size_unfolded-requires : goal.size_unfolded-requires
 size_unfolded-requires t c =
     let ruled : syllable c.args.c.0 ≡ true =
-        c.requires.listed.by-rule c.if-parts-eq0.true in
+    c.requires.listed.by-rule c.if-parts-eq0.true in
     let none = c in
     let s = none in
-    let listed = listed-jamo ((table c.args.entries.now c.args.pool.now)) s.args.c.0 _ (ruled ) c.parts_among-by_rule.ensures in
-    let some = (syllable-split ((table c.args.entries.now c.args.pool.now)) s.args.c.0 (ruled ) c.parts_among-by_rule.ensures).some in
+    let listed = listed-jamo ((table c.args.entries.now c.args.pool.now)) s.args.c.0 _ (ruled) c.parts_among-by_rule.ensures in
+    let some = (syllable-split ((table c.args.entries.now c.args.pool.now)) s.args.c.0 (ruled) c.parts_among-by_rule.ensures).some in
     (omega (arith, s.decreases, none.if-parts-eq0.true, some), (s.requires.findable, (listed, s.requires.bounded)))
 
 -- before the first part
@@ -38,132 +38,132 @@ loop-i-init t c = sizing-start
 pub entry_parts-inner-requires : goal.entry_parts-inner-requires
 entry_parts-inner-requires t c =
     let split : Split ((mapping_of ((table c.args.entries.now c.args.pool.now)))) c.args.c.0 c.args.parts.now =
-        listed-split c.requires.listed c.if-parts-eq0.false in
+    listed-split c.requires.listed c.if-parts-eq0.false in
     let l = c in
     let some = l in
     let s = some in
     let scalars = formed-parts-scalar ((table c.args.entries.now c.args.pool.now)) s.requires.findable.form s.args.c.0 in
-    let one = all-at scalar s.args.parts.now l.loop-i.i 0 (rw (split ).parts scalars) c.loop-i-test.true in
+    let one = all-at scalar s.args.parts.now l.loop-i.i 0 (rw (split).parts scalars) c.loop-i-test.true in
     record { findable = s.requires.findable; c_value = one }
 
 -- few octets, and few asks
 pub overflow_add-octets : goal.overflow_add-octets
 overflow_add-octets t c =
     let Part : Unfolded → Type 0 =
-        λ r. let s = c in FullCounted ((mapping_of ((table c.args.entries.now c.args.pool.now)))) (s.args.levels_left - 1) ((get_or c.args.parts.now c.loop-i.i 0)) r in
-    let more : (r : Unfolded) → Part  r → let l = c in let s = c in Sizing ((mapping_of ((table c.args.entries.now c.args.pool.now)))) (s.args.levels_left - 1) s.args.parts.now (l.loop-i.octets + r.octets) (l.loop-i.asked + r.asks) (l.loop-i.i + 1) =
-        λ r counted. sizing-more c.loop-i.invariant ((c.loop-i-test.true)) counted in
+    λ r. let s = c in FullCounted ((mapping_of ((table c.args.entries.now c.args.pool.now)))) (s.args.levels_left - 1) ((get_or c.args.parts.now c.loop-i.i 0)) r in
+    let more : (r : Unfolded) → Part r → let l = c in let s = c in Sizing ((mapping_of ((table c.args.entries.now c.args.pool.now)))) (s.args.levels_left - 1) s.args.parts.now (l.loop-i.octets + r.octets) (l.loop-i.asked + r.asks) (l.loop-i.i + 1) =
+    λ r counted. sizing-more c.loop-i.invariant ((c.loop-i-test.true)) counted in
     let split : Split ((mapping_of ((table c.args.entries.now c.args.pool.now)))) c.args.c.0 c.args.parts.now =
-        listed-split c.requires.listed c.if-parts-eq0.false in
-    let few : (r : Unfolded) → Part  r → (c.loop-i.octets + r.octets ≤ 128) × (c.loop-i.asked + r.asks ≤ 257) =
-        λ r counted. sizing-few c.requires.bounded (split ) (more  r counted) in
-    let whole : Part  ((record { octets = c.octet_count-octets.result; asks = 1 })) =
-        let looked = c in
+    listed-split c.requires.listed c.if-parts-eq0.false in
+    let few : (r : Unfolded) → Part r → (c.loop-i.octets + r.octets ≤ 128) × (c.loop-i.asked + r.asks ≤ 257) =
+    λ r counted. sizing-few c.requires.bounded (split) (more r counted) in
+    let whole : Part ((record { octets = c.octet_count-octets.result; asks = 1 })) =
+    let looked = c in
     let s = looked in
     let stays = sym looked.decomposes.ensures ∙ c.if-not-decomposes.true in
     counted-whole ((mapping_of ((table c.args.entries.now c.args.pool.now)))) (s.args.levels_left - 1) ((get_or c.args.parts.now c.loop-i.i 0))
     (listed-none ((table c.args.entries.now c.args.pool.now)) ((get_or c.args.parts.now c.loop-i.i 0)) _ looked.entry_parts-inner.ensures stays)
     c.octet_count-octets.result
     c.octet_count-octets.ensures in
-    omega (arith, few  ((record { octets = c.octet_count-octets.result; asks = 1 })) (whole ))
+    omega (arith, few ((record { octets = c.octet_count-octets.result; asks = 1 })) (whole))
 
 pub overflow_add-asked : goal.overflow_add-asked
 overflow_add-asked t c =
     let Part : Unfolded → Type 0 =
-        λ r. let s = c in FullCounted ((mapping_of ((table c.args.entries.now c.args.pool.now)))) (s.args.levels_left - 1) ((get_or c.args.parts.now c.loop-i.i 0)) r in
-    let more : (r : Unfolded) → Part  r → let l = c in let s = c in Sizing ((mapping_of ((table c.args.entries.now c.args.pool.now)))) (s.args.levels_left - 1) s.args.parts.now (l.loop-i.octets + r.octets) (l.loop-i.asked + r.asks) (l.loop-i.i + 1) =
-        λ r counted. sizing-more c.loop-i.invariant ((c.loop-i-test.true)) counted in
+    λ r. let s = c in FullCounted ((mapping_of ((table c.args.entries.now c.args.pool.now)))) (s.args.levels_left - 1) ((get_or c.args.parts.now c.loop-i.i 0)) r in
+    let more : (r : Unfolded) → Part r → let l = c in let s = c in Sizing ((mapping_of ((table c.args.entries.now c.args.pool.now)))) (s.args.levels_left - 1) s.args.parts.now (l.loop-i.octets + r.octets) (l.loop-i.asked + r.asks) (l.loop-i.i + 1) =
+    λ r counted. sizing-more c.loop-i.invariant ((c.loop-i-test.true)) counted in
     let split : Split ((mapping_of ((table c.args.entries.now c.args.pool.now)))) c.args.c.0 c.args.parts.now =
-        listed-split c.requires.listed c.if-parts-eq0.false in
-    let few : (r : Unfolded) → Part  r → (c.loop-i.octets + r.octets ≤ 128) × (c.loop-i.asked + r.asks ≤ 257) =
-        λ r counted. sizing-few c.requires.bounded (split ) (more  r counted) in
-    let whole : Part  ((record { octets = c.octet_count-octets.result; asks = 1 })) =
-        let looked = c in
+    listed-split c.requires.listed c.if-parts-eq0.false in
+    let few : (r : Unfolded) → Part r → (c.loop-i.octets + r.octets ≤ 128) × (c.loop-i.asked + r.asks ≤ 257) =
+    λ r counted. sizing-few c.requires.bounded (split) (more r counted) in
+    let whole : Part ((record { octets = c.octet_count-octets.result; asks = 1 })) =
+    let looked = c in
     let s = looked in
     let stays = sym looked.decomposes.ensures ∙ c.if-not-decomposes.true in
     counted-whole ((mapping_of ((table c.args.entries.now c.args.pool.now)))) (s.args.levels_left - 1) ((get_or c.args.parts.now c.loop-i.i 0))
     (listed-none ((table c.args.entries.now c.args.pool.now)) ((get_or c.args.parts.now c.loop-i.i 0)) _ looked.entry_parts-inner.ensures stays)
     c.octet_count-octets.result
     c.octet_count-octets.ensures in
-    omega (arith, few  ((record { octets = c.octet_count-octets.result; asks = 1 })) (whole ))
+    omega (arith, few ((record { octets = c.octet_count-octets.result; asks = 1 })) (whole))
 
 -- a level is left
 pub overflow_sub-levels_left : goal.overflow_sub-levels_left
 overflow_sub-levels_left t c =
     let split : Split ((mapping_of ((table c.args.entries.now c.args.pool.now)))) c.args.c.0 c.args.parts.now =
-        listed-split c.requires.listed c.if-parts-eq0.false in
+    listed-split c.requires.listed c.if-parts-eq0.false in
     let level : 1 ≤ c.args.levels_left =
-        bounded-levels c.requires.bounded (split ) in
+    bounded-levels c.requires.bounded (split) in
     level
 
 -- one level down, with what the entries say of the part
 pub size_unfolded-sized-requires : goal.size_unfolded-sized-requires
 size_unfolded-sized-requires t c =
     let split : Split ((mapping_of ((table c.args.entries.now c.args.pool.now)))) c.args.c.0 c.args.parts.now =
-        listed-split c.requires.listed c.if-parts-eq0.false in
+    listed-split c.requires.listed c.if-parts-eq0.false in
     let level : 1 ≤ c.args.levels_left =
-        bounded-levels c.requires.bounded (split ) in
+    bounded-levels c.requires.bounded (split) in
     let looked = c in
     let some = looked in
     let s = looked in
     let splits = sym looked.decomposes.ensures ∙ c.if-not-decomposes.false in
     let listed = listed-some ((table c.args.entries.now c.args.pool.now)) ((get_or c.args.parts.now c.loop-i.i 0)) _ s.requires.findable.form looked.entry_parts-inner.ensures splits in (
-      omega (arith, level , s.decreases, (split ).some),
-      (s.requires.findable, (listed, bounded-part s.requires.bounded (split ) looked.loop-i.i ((c.loop-i-test.true)))),
+      omega (arith, level, s.decreases, (split).some),
+      (s.requires.findable, (listed, bounded-part s.requires.bounded (split) looked.loop-i.i ((c.loop-i-test.true)))),
     )
 
 pub overflow_add-octets-else-not-decomposes : goal.overflow_add-octets-else-not-decomposes
 overflow_add-octets-else-not-decomposes t c =
     let Part : Unfolded → Type 0 =
-        λ r. let s = c in FullCounted ((mapping_of ((table c.args.entries.now c.args.pool.now)))) (s.args.levels_left - 1) ((get_or c.args.parts.now c.loop-i.i 0)) r in
-    let more : (r : Unfolded) → Part  r → let l = c in let s = c in Sizing ((mapping_of ((table c.args.entries.now c.args.pool.now)))) (s.args.levels_left - 1) s.args.parts.now (l.loop-i.octets + r.octets) (l.loop-i.asked + r.asks) (l.loop-i.i + 1) =
-        λ r counted. sizing-more c.loop-i.invariant ((c.loop-i-test.true)) counted in
+    λ r. let s = c in FullCounted ((mapping_of ((table c.args.entries.now c.args.pool.now)))) (s.args.levels_left - 1) ((get_or c.args.parts.now c.loop-i.i 0)) r in
+    let more : (r : Unfolded) → Part r → let l = c in let s = c in Sizing ((mapping_of ((table c.args.entries.now c.args.pool.now)))) (s.args.levels_left - 1) s.args.parts.now (l.loop-i.octets + r.octets) (l.loop-i.asked + r.asks) (l.loop-i.i + 1) =
+    λ r counted. sizing-more c.loop-i.invariant ((c.loop-i-test.true)) counted in
     let split : Split ((mapping_of ((table c.args.entries.now c.args.pool.now)))) c.args.c.0 c.args.parts.now =
-        listed-split c.requires.listed c.if-parts-eq0.false in
-    let few : (r : Unfolded) → Part  r → (c.loop-i.octets + r.octets ≤ 128) × (c.loop-i.asked + r.asks ≤ 257) =
-        λ r counted. sizing-few c.requires.bounded (split ) (more  r counted) in
+    listed-split c.requires.listed c.if-parts-eq0.false in
+    let few : (r : Unfolded) → Part r → (c.loop-i.octets + r.octets ≤ 128) × (c.loop-i.asked + r.asks ≤ 257) =
+    λ r counted. sizing-few c.requires.bounded (split) (more r counted) in
     let called = c in
-    omega (arith, few  called.size_unfolded-sized.result called.size_unfolded-sized.ensures)
+    omega (arith, few called.size_unfolded-sized.result called.size_unfolded-sized.ensures)
 
 pub overflow_add-asked-else-not-decomposes : goal.overflow_add-asked-else-not-decomposes
 overflow_add-asked-else-not-decomposes t c =
     let Part : Unfolded → Type 0 =
-        λ r. let s = c in FullCounted ((mapping_of ((table c.args.entries.now c.args.pool.now)))) (s.args.levels_left - 1) ((get_or c.args.parts.now c.loop-i.i 0)) r in
-    let more : (r : Unfolded) → Part  r → let l = c in let s = c in Sizing ((mapping_of ((table c.args.entries.now c.args.pool.now)))) (s.args.levels_left - 1) s.args.parts.now (l.loop-i.octets + r.octets) (l.loop-i.asked + r.asks) (l.loop-i.i + 1) =
-        λ r counted. sizing-more c.loop-i.invariant ((c.loop-i-test.true)) counted in
+    λ r. let s = c in FullCounted ((mapping_of ((table c.args.entries.now c.args.pool.now)))) (s.args.levels_left - 1) ((get_or c.args.parts.now c.loop-i.i 0)) r in
+    let more : (r : Unfolded) → Part r → let l = c in let s = c in Sizing ((mapping_of ((table c.args.entries.now c.args.pool.now)))) (s.args.levels_left - 1) s.args.parts.now (l.loop-i.octets + r.octets) (l.loop-i.asked + r.asks) (l.loop-i.i + 1) =
+    λ r counted. sizing-more c.loop-i.invariant ((c.loop-i-test.true)) counted in
     let split : Split ((mapping_of ((table c.args.entries.now c.args.pool.now)))) c.args.c.0 c.args.parts.now =
-        listed-split c.requires.listed c.if-parts-eq0.false in
-    let few : (r : Unfolded) → Part  r → (c.loop-i.octets + r.octets ≤ 128) × (c.loop-i.asked + r.asks ≤ 257) =
-        λ r counted. sizing-few c.requires.bounded (split ) (more  r counted) in
+    listed-split c.requires.listed c.if-parts-eq0.false in
+    let few : (r : Unfolded) → Part r → (c.loop-i.octets + r.octets ≤ 128) × (c.loop-i.asked + r.asks ≤ 257) =
+    λ r counted. sizing-few c.requires.bounded (split) (more r counted) in
     let called = c in
-    omega (arith, few  called.size_unfolded-sized.result called.size_unfolded-sized.ensures)
+    omega (arith, few called.size_unfolded-sized.result called.size_unfolded-sized.ensures)
 
 -- one part more, either way
 pub loop-i-preserved : goal.loop-i-preserved
 loop-i-preserved t c =
     let Part : Unfolded → Type 0 =
-        λ r. let s = c in FullCounted ((mapping_of ((table c.args.entries.now c.args.pool.now)))) (s.args.levels_left - 1) ((get_or c.args.parts.now c.loop-i.i 0)) r in
-    let more : (r : Unfolded) → Part  r → let l = c in let s = c in Sizing ((mapping_of ((table c.args.entries.now c.args.pool.now)))) (s.args.levels_left - 1) s.args.parts.now (l.loop-i.octets + r.octets) (l.loop-i.asked + r.asks) (l.loop-i.i + 1) =
-        λ r counted. sizing-more c.loop-i.invariant ((c.loop-i-test.true)) counted in
+    λ r. let s = c in FullCounted ((mapping_of ((table c.args.entries.now c.args.pool.now)))) (s.args.levels_left - 1) ((get_or c.args.parts.now c.loop-i.i 0)) r in
+    let more : (r : Unfolded) → Part r → let l = c in let s = c in Sizing ((mapping_of ((table c.args.entries.now c.args.pool.now)))) (s.args.levels_left - 1) s.args.parts.now (l.loop-i.octets + r.octets) (l.loop-i.asked + r.asks) (l.loop-i.i + 1) =
+    λ r counted. sizing-more c.loop-i.invariant ((c.loop-i-test.true)) counted in
     elim c.if-not-decomposes.branch [
-      then-not-decomposes w ↦
-        rw (w.octets-is, w.asked-is)
-        (more (record { octets = w.octet_count-octets.result; asks = 1 })
-        (counted-whole (mapping_of (table c.args.entries.now c.args.pool.now)) (c.args.levels_left - 1)
-        (get_or c.args.parts.now c.loop-i.i 0)
-        (listed-none (table c.args.entries.now c.args.pool.now) (get_or c.args.parts.now c.loop-i.i 0) _
-        c.entry_parts-inner.ensures (sym c.decomposes.ensures ∙ w.if-not-decomposes.true))
-        w.octet_count-octets.result
-        w.octet_count-octets.ensures))
-    | else-not-decomposes w ↦
-        rw (w.octets-is, w.asked-is) (more w.size_unfolded-sized.result w.size_unfolded-sized.ensures)
+      | then-not-decomposes w ↦
+          rw (w.octets-is, w.asked-is)
+          (more (record { octets = w.octet_count-octets.result; asks = 1 })
+          (counted-whole (mapping_of (table c.args.entries.now c.args.pool.now)) (c.args.levels_left - 1)
+          (get_or c.args.parts.now c.loop-i.i 0)
+          (listed-none (table c.args.entries.now c.args.pool.now) (get_or c.args.parts.now c.loop-i.i 0) _
+          c.entry_parts-inner.ensures (sym c.decomposes.ensures ∙ w.if-not-decomposes.true))
+          w.octet_count-octets.result
+          w.octet_count-octets.ensures))
+      | else-not-decomposes w ↦
+          rw (w.octets-is, w.asked-is) (more w.size_unfolded-sized.result w.size_unfolded-sized.ensures)
     ]
 
 -- every part was sized
 pub returns : goal.returns
 returns t c =
     let split : Split ((mapping_of ((table c.args.entries.now c.args.pool.now)))) c.args.c.0 c.args.parts.now =
-        listed-split c.requires.listed c.if-parts-eq0.false in
+    listed-split c.requires.listed c.if-parts-eq0.false in
     let l = c in
     let some = l in
-    sizing-done some.requires.bounded (split ) l.loop-i.invariant c.loop-i-test.false
+    sizing-done some.requires.bounded (split) l.loop-i.invariant c.loop-i-test.false

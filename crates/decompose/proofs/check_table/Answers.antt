@@ -36,8 +36,8 @@ answer-form t r e = go (form_refusal t) e
 pub returns-in-Passed : goal.returns-in-Passed
 returns-in-Passed c =
     let form : form_refusal ((let a = c.args in table a.entries.now a.pool.now)) ≡ none =
-        answer-given _ _ _ (sym (ap check_outcome c.in-Passed.is) ∙ c.check_form-form.ensures) in
-    c.check_levels.ensures ∙ answer-levels ((let a = c.args in table a.entries.now a.pool.now)) (form )
+    answer-given _ _ _ (sym (ap check_outcome c.in-Passed.is) ∙ c.check_form-form.ensures) in
+    c.check_levels.ensures ∙ answer-levels ((let a = c.args in table a.entries.now a.pool.now)) (form)
 
 -- refused for its form
 pub returns-in-Refused : goal.returns-in-Refused

@@ -10,5 +10,5 @@ use Rattle.decompose.proofs.title_of.Goals as goal
 pub title_at-requires : goal.title_at-requires
 title_at-requires c =
     let found : let a = c.args in entry_of a.entries.now a.c.0 ≡ some c.in-At.i =
-        sym c.requires ∙ ap place_found c.in-At.is in
-    (entry_of-some _ _ _ (found )).0
+    sym c.requires ∙ ap place_found c.in-At.is in
+    (entry_of-some _ _ _ (found)).0

@@ -16,34 +16,34 @@ use Rattle.numeric.proofs.compare_numbers.Goals as goal
 pub slice_bounds-compare_runs-count : goal.slice_bounds-compare_runs-count
 slice_bounds-compare_runs-count c =
     let first_within : c.zeros-a.result ≤ length ((c.args.first.now)) =
-        omega (arith, c.zeros-a.ensures, leading_zeros-within ((c.args.first.now))) in
-    omega (arith, first_within )
+    omega (arith, c.zeros-a.ensures, leading_zeros-within ((c.args.first.now))) in
+    omega (arith, first_within)
 
 pub slice_bounds-compare_runs-start : goal.slice_bounds-compare_runs-start
 slice_bounds-compare_runs-start c =
     let first_within : c.zeros-a.result ≤ length ((c.args.first.now)) =
-        omega (arith, c.zeros-a.ensures, leading_zeros-within ((c.args.first.now))) in
-    omega (arith, first_within )
+    omega (arith, c.zeros-a.ensures, leading_zeros-within ((c.args.first.now))) in
+    omega (arith, first_within)
 
 pub slice_bounds-compare_runs-count-2 : goal.slice_bounds-compare_runs-count-2
 slice_bounds-compare_runs-count-2 c =
     let second_within : c.zeros-b.result ≤ length ((c.args.second.now)) =
-        omega (arith, c.zeros-b.ensures, leading_zeros-within ((c.args.second.now))) in
-    omega (arith, second_within )
+    omega (arith, c.zeros-b.ensures, leading_zeros-within ((c.args.second.now))) in
+    omega (arith, second_within)
 
 pub slice_bounds-compare_runs-start-2 : goal.slice_bounds-compare_runs-start-2
 slice_bounds-compare_runs-start-2 c =
     let second_within : c.zeros-b.result ≤ length ((c.args.second.now)) =
-        omega (arith, c.zeros-b.ensures, leading_zeros-within ((c.args.second.now))) in
-    omega (arith, second_within )
+    omega (arith, c.zeros-b.ensures, leading_zeros-within ((c.args.second.now))) in
+    omega (arith, second_within)
 
 -- two numbers
 pub returns : goal.returns
 returns c =
     let first_has : not (empty (run ((c.args.first.now)))) ≡ true =
-        sym c.digit_at-2.ensures ∙ c.if-not-digit_at-2.false in
+    sym c.digit_at-2.ensures ∙ c.if-not-digit_at-2.false in
     let second_has : not (empty (run ((c.args.second.now)))) ≡ true =
-        sym c.digit_at.ensures ∙ c.if-not-digit_at.false in
+    sym c.digit_at.ensures ∙ c.if-not-digit_at.false in
     let passed = c in
     let both = passed in
     let first = (c.args.first.now) in
@@ -53,4 +53,4 @@ returns c =
     at c.compare_runs.ensures
     in
     let compared = rw (passed.zeros-a.ensures, passed.zeros-b.ensures) at runs in
-    compared ∙ sym (order-both first second (first_has ) (second_has ))
+    compared ∙ sym (order-both first second (first_has) (second_has))

@@ -10,5 +10,5 @@ use Rattle.pages.proofs.entry_parts.Goals as goal
 pub parts_at-requires : goal.parts_at-requires
 parts_at-requires c =
     let found : entry_of c.args.entries.now c.args.c.0 ≡ some c.in-At.i =
-        sym c.find_entry.ensures ∙ ap place_found c.in-At.is in
-    record { pool_value = c.requires.findable.form; i_bound = (entry_of-some _ _ _ (found )).0 }
+    sym c.find_entry.ensures ∙ ap place_found c.in-At.is in
+    record { pool_value = c.requires.findable.form; i_bound = (entry_of-some _ _ _ (found)).0 }

@@ -21,7 +21,7 @@ use Rattle.pages.proofs.find_entry.Goals as goal
 pub returns-then-not-has_bit : goal.returns-then-not-has_bit
 returns-then-not-has_bit c =
     let place : paged_place ((pages c.args.presence.now c.args.ranks.now)) c.args.c.0 ≡ entry_of c.args.entries.now c.args.c.0 =
-        paged-place c.args.entries.now (formed-ascending ((table c.args.entries.now c.args.pool.now)) c.requires.findable.form) c.requires.findable.paged c.args.c.0
+    paged-place c.args.entries.now (formed-ascending ((table c.args.entries.now c.args.pool.now)) c.requires.findable.form) c.requires.findable.paged c.args.c.0
     (omega (arith, scalar-most c.args.c.0 c.requires.c_value)) in
     let s = c in
     let clear = sym c.has_bit.ensures ∙ c.if-not-has_bit.true in
@@ -31,25 +31,25 @@ returns-then-not-has_bit c =
 pub overflow_add-result : goal.overflow_add-result
 overflow_add-result c =
     let within : c.args.c.0 / page_size < pages_most =
-        omega (arith, scalar-most c.args.c.0 c.requires.c_value) in
+    omega (arith, scalar-most c.args.c.0 c.requires.c_value) in
     let number_most : get_or c.args.ranks.now (c.args.c.0 / page_size) 0 ≤ 16384 =
-        let page = c.args.c.0 / page_size in
+    let page = c.args.c.0 / page_size in
     omega (
       arith,
-      c.requires.findable.paged.numbers page (within ),
+      c.requires.findable.paged.numbers page (within),
       rank_of-most c.args.entries.now page,
       sound-entries ((table c.args.entries.now c.args.pool.now)) (formed ((table c.args.entries.now c.args.pool.now)) c.requires.findable.form).size,
     ) in
     let s = c in
     let bit = s.args.c.0 % page_size in
     let word = get_or s.args.presence.now (s.args.c.0 / page_size) 0 in
-    omega (arith, number_most , c.ones_below.ensures, ones-le bit (word % 2 ^ bit) (mod-lt word (pow_pos bit)))
+    omega (arith, number_most, c.ones_below.ensures, ones-le bit (word % 2 ^ bit) (mod-lt word (pow_pos bit)))
 
 -- the bit is set
 pub returns : goal.returns
 returns c =
     let place : paged_place ((pages c.args.presence.now c.args.ranks.now)) c.args.c.0 ≡ entry_of c.args.entries.now c.args.c.0 =
-        paged-place c.args.entries.now (formed-ascending ((table c.args.entries.now c.args.pool.now)) c.requires.findable.form) c.requires.findable.paged c.args.c.0
+    paged-place c.args.entries.now (formed-ascending ((table c.args.entries.now c.args.pool.now)) c.requires.findable.form) c.requires.findable.paged c.args.c.0
     (omega (arith, scalar-most c.args.c.0 c.requires.c_value)) in
     let s = c in
     let set = sym c.has_bit.ensures ∙ c.if-not-has_bit.false in

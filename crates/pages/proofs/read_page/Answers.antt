@@ -24,23 +24,23 @@ returns-then-c-page c =
 pub overflow_add-word : goal.overflow_add-word
 overflow_add-word c =
     let is_entry : c.loop-i.i < entry_count ((c.args.entries.now)) =
-        omega (arith, c.loop-i-test.true, c.entry_count-count.ensures) in
+    omega (arith, c.loop-i-test.true, c.entry_count-count.ensures) in
     let more : Reading ((c.args.entries.now)) c.args.page (c.loop-i.i + 1) (c.loop-i.word + 1 * 2 ^ (c.code_at-c.result.0 % 64) % 2 ^ 64) =
-        let read = c in
+    let read = c in
     let l = c in
     let s = l in
-    reading-next l.loop-i.invariant s.requires.ascending (is_entry ) read.code_at-c.result.0 read.code_at-c.ensures c.if-c-page.false in
-    omega (arith, reading-lt (more ))
+    reading-next l.loop-i.invariant s.requires.ascending (is_entry) read.code_at-c.result.0 read.code_at-c.ensures c.if-c-page.false in
+    omega (arith, reading-lt (more))
 
 pub loop-i-preserved : goal.loop-i-preserved
 loop-i-preserved c =
     let is_entry : c.loop-i.i < entry_count ((c.args.entries.now)) =
-        omega (arith, c.loop-i-test.true, c.entry_count-count.ensures) in
+    omega (arith, c.loop-i-test.true, c.entry_count-count.ensures) in
     let more : Reading ((c.args.entries.now)) c.args.page (c.loop-i.i + 1) (c.loop-i.word + 1 * 2 ^ (c.code_at-c.result.0 % 64) % 2 ^ 64) =
-        let read = c in
+    let read = c in
     let l = c in
     let s = l in
-    reading-next l.loop-i.invariant s.requires.ascending (is_entry ) read.code_at-c.result.0 read.code_at-c.ensures c.if-c-page.false in
+    reading-next l.loop-i.invariant s.requires.ascending (is_entry) read.code_at-c.result.0 read.code_at-c.ensures c.if-c-page.false in
     more
 
 pub returns : goal.returns

@@ -17,8 +17,8 @@ below n = let from : 0 + n ≡ n = omega arith in rw from at (numbers-most 0 n)
 pub sort-requires : goal.sort-requires
 sort-requires c =
     let numbered : c.number.new.row ≡ numbers 0 (length c.args.ends.now) =
-        c.number.ensures ∙ ap (numbers 0) c.requires.row_len in
+    c.number.ensures ∙ ap (numbers 0) c.requires.row_len in
     let called = c in
     let s = called in
     let n = length s.args.ends.now in
-    record { ends = s.requires.ends; row_value = ap (all (λ x. ltb x n)) (numbered ) ∙ below n; row_in_bounds = omega (arith, ap length (numbered ), length-numbers 0 n, s.requires.row_len, s.requires.row_in_bounds) }
+    record { ends = s.requires.ends; row_value = ap (all (λ x. ltb x n)) (numbered) ∙ below n; row_in_bounds = omega (arith, ap length (numbered), length-numbers 0 n, s.requires.row_len, s.requires.row_in_bounds) }

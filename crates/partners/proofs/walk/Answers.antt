@@ -32,76 +32,84 @@ loop-i-init c =
 pub group_at-group-requires : goal.group_at-group-requires
 group_at-group-requires c =
     let long : length c.args.row.now ≡ (length c.args.ends.now) =
-        ap length c.requires.row_value ∙ row-length ((key_in c.args.store.now c.args.ends.now)) ((length c.args.ends.now)) in
+    ap length c.requires.row_value ∙ row-length ((key_in c.args.store.now c.args.ends.now)) ((length c.args.ends.now)) in
     let numbered : all_numbered c.args.ends.now c.args.row.now ≡ true =
-        rw c.requires.row_value (row-numbered ((key_in c.args.store.now c.args.ends.now)) ((length c.args.ends.now))) in
+    rw c.requires.row_value (row-numbered ((key_in c.args.store.now c.args.ends.now)) ((length c.args.ends.now))) in
     let order : ascending (key_order ((key_in c.args.store.now c.args.ends.now))) c.args.row.now ≡ true =
-        rw c.requires.row_value (row-ascending ((key_in c.args.store.now c.args.ends.now)) ((length c.args.ends.now))) in
+    rw c.requires.row_value (row-ascending ((key_in c.args.store.now c.args.ends.now)) ((length c.args.ends.now))) in
     let l = c in
     let s = l in
-    record { ends = s.requires.ends; ends_len_bound = s.requires.ends_len_bound; row_value = numbered; row_len_bound = omega (arith, long , s.requires.ends_len_bound); row_value_2 = order; i_in_bounds = omega (arith, l.loop-i.invariant.inside, c.loop-i-test.true); tells = tells-next ((key_in c.args.store.now c.args.ends.now)) s.args.middle s.args.row.now s.args.partners.now s.args.positions.now
-                    l.loop-i.invariant
-                    c.loop-i-test.true }
+    record {
+      ends = s.requires.ends;
+      ends_len_bound = s.requires.ends_len_bound;
+      row_value = numbered;
+      row_len_bound = omega (arith, long, s.requires.ends_len_bound);
+      row_value_2 = order;
+      i_in_bounds = omega (arith, l.loop-i.invariant.inside, c.loop-i-test.true);
+      tells = tells-next ((key_in c.args.store.now c.args.ends.now)) s.args.middle s.args.row.now s.args.partners.now s.args.positions.now
+          l.loop-i.invariant
+          c.loop-i-test.true;
+    }
 
 pub overflow_sub-free : goal.overflow_sub-free
 overflow_sub-free c =
     let firsts : length (those (is_first c.args.middle) c.args.row.now) ≡ c.args.middle =
-        let parts : (length c.args.ends.now) ≡ c.args.middle + ((length c.args.ends.now) - c.args.middle) = omega (arith, c.requires.middle_in_bounds) in
+    let parts : (length c.args.ends.now) ≡ c.args.middle + ((length c.args.ends.now) - c.args.middle) = omega (arith, c.requires.middle_in_bounds) in
     ap (λ (t : List ℕ). length (those (is_first c.args.middle) t))
     (c.requires.row_value ∙ ap (λ (n : ℕ). sorted (key_order ((key_in c.args.store.now c.args.ends.now))) (numbers 0 n)) parts)
     ∙ first_count ((key_in c.args.store.now c.args.ends.now)) c.args.middle ((length c.args.ends.now) - c.args.middle) in
     let order : ascending (key_order ((key_in c.args.store.now c.args.ends.now))) c.args.row.now ≡ true =
-        rw c.requires.row_value (row-ascending ((key_in c.args.store.now c.args.ends.now)) ((length c.args.ends.now))) in
+    rw c.requires.row_value (row-ascending ((key_in c.args.store.now c.args.ends.now)) ((length c.args.ends.now))) in
     let room : 0 < c.loop-i.free =
-        let l = c in
+    let l = c in
     let s = l in
     free-left ((key_in c.args.store.now c.args.ends.now)) s.args.middle s.args.row.now s.args.partners.now s.args.positions.now l.loop-i.invariant
     c.loop-i-test.true
     c.group_at-group.result
     c.group_at-group.ensures
-    (order )
+    (order)
     c.if-x-middle.true
-    (firsts ) in
-    omega (arith, room )
+    (firsts) in
+    omega (arith, room)
 
 pub overflow_add-equal_pairs : goal.overflow_add-equal_pairs
 overflow_add-equal_pairs c =
     let firsts : length (those (is_first c.args.middle) c.args.row.now) ≡ c.args.middle =
-        let parts : (length c.args.ends.now) ≡ c.args.middle + ((length c.args.ends.now) - c.args.middle) = omega (arith, c.requires.middle_in_bounds) in
+    let parts : (length c.args.ends.now) ≡ c.args.middle + ((length c.args.ends.now) - c.args.middle) = omega (arith, c.requires.middle_in_bounds) in
     ap (λ (t : List ℕ). length (those (is_first c.args.middle) t))
     (c.requires.row_value ∙ ap (λ (n : ℕ). sorted (key_order ((key_in c.args.store.now c.args.ends.now))) (numbers 0 n)) parts)
     ∙ first_count ((key_in c.args.store.now c.args.ends.now)) c.args.middle ((length c.args.ends.now) - c.args.middle) in
     let long : length c.args.row.now ≡ (length c.args.ends.now) =
-        ap length c.requires.row_value ∙ row-length ((key_in c.args.store.now c.args.ends.now)) ((length c.args.ends.now)) in
+    ap length c.requires.row_value ∙ row-length ((key_in c.args.store.now c.args.ends.now)) ((length c.args.ends.now)) in
     let order : ascending (key_order ((key_in c.args.store.now c.args.ends.now))) c.args.row.now ≡ true =
-        rw c.requires.row_value (row-ascending ((key_in c.args.store.now c.args.ends.now)) ((length c.args.ends.now))) in
+    rw c.requires.row_value (row-ascending ((key_in c.args.store.now c.args.ends.now)) ((length c.args.ends.now))) in
     let fits : c.loop-i.equal_pairs + c.group_at-group.result.count < 0x10000000000000000 =
-        let l = c in
+    let l = c in
     let s = l in
     pairs-here ((key_in c.args.store.now c.args.ends.now)) s.args.middle s.args.row.now s.args.partners.now s.args.positions.now l.loop-i.invariant
     c.loop-i-test.true
     c.group_at-group.result
     c.group_at-group.ensures
-    (order )
+    (order)
     c.if-x-middle.true
-    (firsts )
-    (omega (arith, long , s.requires.ends_len_bound)) in
+    (firsts)
+    (omega (arith, long, s.requires.ends_len_bound)) in
     let t = c in
     let l = t in
     let s = l in
-    omega (arith, fits )
+    omega (arith, fits)
 
 pub overflow_add-partnered : goal.overflow_add-partnered
 overflow_add-partnered c =
     let firsts : length (those (is_first c.args.middle) c.args.row.now) ≡ c.args.middle =
-        let parts : (length c.args.ends.now) ≡ c.args.middle + ((length c.args.ends.now) - c.args.middle) = omega (arith, c.requires.middle_in_bounds) in
+    let parts : (length c.args.ends.now) ≡ c.args.middle + ((length c.args.ends.now) - c.args.middle) = omega (arith, c.requires.middle_in_bounds) in
     ap (λ (t : List ℕ). length (those (is_first c.args.middle) t))
     (c.requires.row_value ∙ ap (λ (n : ℕ). sorted (key_order ((key_in c.args.store.now c.args.ends.now))) (numbers 0 n)) parts)
     ∙ first_count ((key_in c.args.store.now c.args.ends.now)) c.args.middle ((length c.args.ends.now) - c.args.middle) in
     let long : length c.args.row.now ≡ (length c.args.ends.now) =
-        ap length c.requires.row_value ∙ row-length ((key_in c.args.store.now c.args.ends.now)) ((length c.args.ends.now)) in
+    ap length c.requires.row_value ∙ row-length ((key_in c.args.store.now c.args.ends.now)) ((length c.args.ends.now)) in
     let order : ascending (key_order ((key_in c.args.store.now c.args.ends.now))) c.args.row.now ≡ true =
-        rw c.requires.row_value (row-ascending ((key_in c.args.store.now c.args.ends.now)) ((length c.args.ends.now))) in
+    rw c.requires.row_value (row-ascending ((key_in c.args.store.now c.args.ends.now)) ((length c.args.ends.now))) in
     let t = c in
     let l = t in
     let s = l in
@@ -110,21 +118,21 @@ overflow_add-partnered c =
     t.loop-i-test.true
     t.group_at-group.result
     t.group_at-group.ensures
-    (order )
+    (order)
     t.if-x-middle.true
-    (firsts )
+    (firsts)
     in
-    omega (arith, names, long , s.requires.ends_len_bound, few t.group_at-group.result.count, c.one_if_any-partnered.ensures)
+    omega (arith, names, long, s.requires.ends_len_bound, few t.group_at-group.result.count, c.one_if_any-partnered.ensures)
 
 pub loop-i-preserved-then-x-middle : goal.loop-i-preserved-then-x-middle
 loop-i-preserved-then-x-middle c =
     let firsts : length (those (is_first c.args.middle) c.args.row.now) ≡ c.args.middle =
-        let parts : (length c.args.ends.now) ≡ c.args.middle + ((length c.args.ends.now) - c.args.middle) = omega (arith, c.requires.middle_in_bounds) in
+    let parts : (length c.args.ends.now) ≡ c.args.middle + ((length c.args.ends.now) - c.args.middle) = omega (arith, c.requires.middle_in_bounds) in
     ap (λ (t : List ℕ). length (those (is_first c.args.middle) t))
     (c.requires.row_value ∙ ap (λ (n : ℕ). sorted (key_order ((key_in c.args.store.now c.args.ends.now))) (numbers 0 n)) parts)
     ∙ first_count ((key_in c.args.store.now c.args.ends.now)) c.args.middle ((length c.args.ends.now) - c.args.middle) in
     let order : ascending (key_order ((key_in c.args.store.now c.args.ends.now))) c.args.row.now ≡ true =
-        rw c.requires.row_value (row-ascending ((key_in c.args.store.now c.args.ends.now)) ((length c.args.ends.now))) in
+    rw c.requires.row_value (row-ascending ((key_in c.args.store.now c.args.ends.now)) ((length c.args.ends.now))) in
     let t = c in
     let l = t in
     let s = l in
@@ -134,9 +142,9 @@ loop-i-preserved-then-x-middle c =
     t.loop-i-test.true
     t.group_at-group.result
     t.group_at-group.ensures
-    (order )
+    (order)
     t.if-x-middle.true
-    (firsts )
+    (firsts)
     s.requires.middle_in_bounds_3)
 
 pub loop-i-preserved : goal.loop-i-preserved

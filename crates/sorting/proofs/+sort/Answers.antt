@@ -63,9 +63,14 @@ join-requires t c =
     let two = c.sort-2 in
     let one = c.sort in
     let long = long-back ((key_order (key_in c.args.store.now c.args.ends.now))) row n within one.new.row one.ensures two.new.row two.ensures in
-    record { ends = s.requires.ends; row_value = back-numbered ((key_order (key_in c.args.store.now c.args.ends.now))) row n within one.new.row one.ensures two.new.row two.ensures
-            (λ x. ltb x (length s.args.ends.now))
-            s.requires.row_value; half_in_bounds = omega (arith, long); row_in_bounds = omega (arith, long, s.requires.row_in_bounds) }
+    record {
+      ends = s.requires.ends;
+      row_value = back-numbered ((key_order (key_in c.args.store.now c.args.ends.now))) row n within one.new.row one.ensures two.new.row two.ensures
+          (λ x. ltb x (length s.args.ends.now))
+          s.requires.row_value;
+      half_in_bounds = omega (arith, long);
+      row_in_bounds = omega (arith, long, s.requires.row_in_bounds);
+    }
 
 -- both halves in order, joined
 pub returns : goal.returns

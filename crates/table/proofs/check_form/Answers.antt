@@ -36,37 +36,37 @@ returns-then-is_faulty_size c =
 pub returns-in-At : goal.returns-in-At
 returns-in-At c =
     let size : faulty_size ((let a = c.args in table a.entries.now a.pool.now)) ≡ false =
-        sym c.is_faulty_size.ensures ∙ c.if-is_faulty_size.false in
+    sym c.is_faulty_size.ensures ∙ c.if-is_faulty_size.false in
     let at_i = c in
     let checked = at_i in
     let s = checked in
     let fault = sym checked.faulty_code.ensures ∙ ap place_found at_i.in-At.is in
-    ap check_outcome c.refused_at.ensures ∙ answer-found ((let a = c.args in table a.entries.now a.pool.now)) false _ _ _ (size ) fault refl refl
+    ap check_outcome c.refused_at.ensures ∙ answer-found ((let a = c.args in table a.entries.now a.pool.now)) false _ _ _ (size) fault refl refl
 
 -- refused for an entry
 pub returns-in-At-faulty_entry : goal.returns-in-At-faulty_entry
 returns-in-At-faulty_entry c =
     let codes : let t = (let a = c.args in table a.entries.now a.pool.now) in lowest (faulty_code t.entries) (entry_count t.entries) ≡ none =
-        sym c.faulty_code.ensures ∙ ap place_found c.in_default.is in
+    sym c.faulty_code.ensures ∙ ap place_found c.in_default.is in
     let size : faulty_size ((let a = c.args in table a.entries.now a.pool.now)) ≡ false =
-        sym c.is_faulty_size.ensures ∙ c.if-is_faulty_size.false in
+    sym c.is_faulty_size.ensures ∙ c.if-is_faulty_size.false in
     let at_i = c in
     let checked = at_i in
     let passed = checked in
     let s = passed in
     let fault = sym checked.faulty_entry.ensures ∙ ap place_found at_i.in-At-faulty_entry.is in
     ap check_outcome c.refused_at-in-At-faulty_entry.ensures
-    ∙ answer-found ((let a = c.args in table a.entries.now a.pool.now)) false none _ _ (size ) (codes ) fault refl
+    ∙ answer-found ((let a = c.args in table a.entries.now a.pool.now)) false none _ _ (size) (codes) fault refl
 
 -- refused for a pool number
 pub returns-in-At-faulty_number : goal.returns-in-At-faulty_number
 returns-in-At-faulty_number c =
     let codes : let t = (let a = c.args in table a.entries.now a.pool.now) in lowest (faulty_code t.entries) (entry_count t.entries) ≡ none =
-        sym c.faulty_code.ensures ∙ ap place_found c.in_default.is in
+    sym c.faulty_code.ensures ∙ ap place_found c.in_default.is in
     let entries : entry_fault ((let a = c.args in table a.entries.now a.pool.now)) ≡ none =
-        sym c.faulty_entry.ensures ∙ ap place_found c.in_default-faulty_entry.is in
+    sym c.faulty_entry.ensures ∙ ap place_found c.in_default-faulty_entry.is in
     let size : faulty_size ((let a = c.args in table a.entries.now a.pool.now)) ≡ false =
-        sym c.is_faulty_size.ensures ∙ c.if-is_faulty_size.false in
+    sym c.is_faulty_size.ensures ∙ c.if-is_faulty_size.false in
     let at_i = c in
     let checked = at_i in
     let passed = checked in
@@ -74,20 +74,20 @@ returns-in-At-faulty_number c =
     let s = past-codes in
     let fault = sym checked.faulty_number.ensures ∙ ap place_found at_i.in-At-faulty_number.is in
     ap check_outcome c.refused_at-in-At-faulty_number.ensures
-    ∙ answer-found ((let a = c.args in table a.entries.now a.pool.now)) false none none _ (size ) codes (entries ) fault
+    ∙ answer-found ((let a = c.args in table a.entries.now a.pool.now)) false none none _ (size) codes (entries) fault
 
 -- accepted
 pub returns : goal.returns
 returns c =
     let codes : let t = (let a = c.args in table a.entries.now a.pool.now) in lowest (faulty_code t.entries) (entry_count t.entries) ≡ none =
-        sym c.faulty_code.ensures ∙ ap place_found c.in_default.is in
+    sym c.faulty_code.ensures ∙ ap place_found c.in_default.is in
     let entries : entry_fault ((let a = c.args in table a.entries.now a.pool.now)) ≡ none =
-        sym c.faulty_entry.ensures ∙ ap place_found c.in_default-faulty_entry.is in
+    sym c.faulty_entry.ensures ∙ ap place_found c.in_default-faulty_entry.is in
     let size : faulty_size ((let a = c.args in table a.entries.now a.pool.now)) ≡ false =
-        sym c.is_faulty_size.ensures ∙ c.if-is_faulty_size.false in
+    sym c.is_faulty_size.ensures ∙ c.if-is_faulty_size.false in
     let checked = c in
     let passed = checked in
     let past-codes = passed in
     let s = past-codes in
     let numbers = sym checked.faulty_number.ensures ∙ ap place_found c.in_default-faulty_number.is in
-    answer-found ((let a = c.args in table a.entries.now a.pool.now)) false none none none (size ) codes (entries ) numbers
+    answer-found ((let a = c.args in table a.entries.now a.pool.now)) false none none none (size) codes (entries) numbers

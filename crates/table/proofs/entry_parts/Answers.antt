@@ -12,7 +12,7 @@ use Rattle.table.proofs.entry_parts.Goals as goal
 pub within_reach-count-requires : goal.within_reach-count-requires
 within_reach-count-requires c =
     let ascending : Ascending c.args.entries.now =
-        formed-ascending ((table c.args.entries.now c.args.pool.now)) c.requires in
+    formed-ascending ((table c.args.entries.now c.args.pool.now)) c.requires in
     ascending
 
 -- no entry within reach, no parts
@@ -25,7 +25,7 @@ returns-then-count-eq0 c =
 pub find_among-requires : goal.find_among-requires
 find_among-requires c =
     let ascending : Ascending c.args.entries.now =
-        formed-ascending ((table c.args.entries.now c.args.pool.now)) c.requires in
+    formed-ascending ((table c.args.entries.now c.args.pool.now)) c.requires in
     let called = c in
     record { ascending = ascending; size_nonzero = omega arith; candidates = called.within_reach-count.ensures }
 
@@ -33,6 +33,6 @@ find_among-requires c =
 pub parts_at-requires : goal.parts_at-requires
 parts_at-requires c =
     let found : entry_of c.args.entries.now c.args.c.0 ≡ some c.in-At.i =
-        sym c.find_among.ensures ∙ ap place_found c.in-At.is in
+    sym c.find_among.ensures ∙ ap place_found c.in-At.is in
     let s = c in
-    record { pool_value = s.requires; i_bound = (entry_of-some s.args.entries.now s.args.c.0 _ (found )).0 }
+    record { pool_value = s.requires; i_bound = (entry_of-some s.args.entries.now s.args.c.0 _ (found)).0 }

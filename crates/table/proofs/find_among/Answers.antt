@@ -23,12 +23,12 @@ loop-left-preserved c =
     let read = called.code_at-there.ensures in (
       omega arith,
       elim c.if-there-sought.branch [
-        then-there-sought w ↦
-          rw w.first-is (candidates-up l.invariant.1 (omega arith) (rw read at w.if-there-sought.true))
-      | else-there-sought w ↦
-          rw w.first-is
-          (candidates-down up l.invariant.1 (l.first + l.left / 2) (omega arith) (omega arith)
-          (rw read at w.if-there-sought.false))
+        | then-there-sought w ↦
+            rw w.first-is (candidates-up l.invariant.1 (omega arith) (rw read at w.if-there-sought.true))
+        | else-there-sought w ↦
+            rw w.first-is
+            (candidates-down up l.invariant.1 (l.first + l.left / 2) (omega arith) (omega arith)
+            (rw read at w.if-there-sought.false))
       ],
     )
 

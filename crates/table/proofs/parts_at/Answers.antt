@@ -12,6 +12,6 @@ use Rattle.table.proofs.parts_at.Goals as goal
 pub slice_bounds-result-end : goal.slice_bounds-result-end
 slice_bounds-result-end c =
     let fits : let a = c.args in start_at a.entries.now a.i + count_at a.entries.now a.i ≤ length a.pool.now =
-        let s = c in
+    let s = c in
     formed-fits (table s.args.entries.now s.args.pool.now) s.requires.pool_value s.args.i s.requires.i_bound in
-    omega (arith, fits )
+    omega (arith, fits)

@@ -26,171 +26,171 @@ two_by (suc (suc n)) octet none one three four marked = omega (arith, marked n r
 pub bounds-text-i : goal.bounds-text-i
 bounds-text-i c =
     let stands : c.args.at.0 < length c.args.text.now =
-        decode-stands c.args.text.now c.args.at.0 c.requires in
+    decode-stands c.args.text.now c.args.at.0 c.requires in
     stands
 
 pub overflow_add-rest : goal.overflow_add-rest
 overflow_add-rest c =
     let stands : c.args.at.0 < length c.args.text.now =
-        decode-stands c.args.text.now c.args.at.0 c.requires in
-    let s = c in omega (arith, stands , s.well_formed.0)
+    decode-stands c.args.text.now c.args.at.0 c.requires in
+    let s = c in omega (arith, stands, s.well_formed.0)
 
 pub slice_bounds-rest-count : goal.slice_bounds-rest-count
 slice_bounds-rest-count c =
     let stands : c.args.at.0 < length c.args.text.now =
-        decode-stands c.args.text.now c.args.at.0 c.requires in
-    omega (arith, stands )
+    decode-stands c.args.text.now c.args.at.0 c.requires in
+    omega (arith, stands)
 
 pub slice_bounds-rest-start : goal.slice_bounds-rest-start
 slice_bounds-rest-start c =
     let stands : c.args.at.0 < length c.args.text.now =
-        decode-stands c.args.text.now c.args.at.0 c.requires in
-    omega (arith, stands )
+    decode-stands c.args.text.now c.args.at.0 c.requires in
+    omega (arith, stands)
 
 -- three octets
 pub overflow_sub-a : goal.overflow_sub-a
 overflow_sub-a c =
     let marked : (n : ℕ) → c.sequence_length-width.result ≡ suc n → 1 ≤ n → Marked (suc n) ((get_or c.args.text.now c.args.at.0 0)) =
-        λ n is l. announced-marked ((get_or c.args.text.now c.args.at.0 0)) (suc n) (sym c.sequence_length-width.ensures ∙ ap length_said is) (omega arith) in
-    omega (arith, marked  2 c.in-3.is (omega arith))
+    λ n is l. announced-marked ((get_or c.args.text.now c.args.at.0 0)) (suc n) (sym c.sequence_length-width.ensures ∙ ap length_said is) (omega arith) in
+    omega (arith, marked 2 c.in-3.is (omega arith))
 
 pub join-requires : goal.join-requires
 join-requires c =
     let joined : ℕ → ℕ → Option ℕ =
-        λ n x. trailed n x ((let t = c.args.text.now in let i = c.args.at.0 in take (length t - (i + 1)) (drop (i + 1) t))) in
+    λ n x. trailed n x ((let t = c.args.text.now in let i = c.args.at.0 in take (length t - (i + 1)) (drop (i + 1) t))) in
     let marked : (n : ℕ) → c.sequence_length-width.result ≡ suc n → 1 ≤ n → Marked (suc n) ((get_or c.args.text.now c.args.at.0 0)) =
-        λ n is l. announced-marked ((get_or c.args.text.now c.args.at.0 0)) (suc n) (sym c.sequence_length-width.ensures ∙ ap length_said is) (omega arith) in
+    λ n is l. announced-marked ((get_or c.args.text.now c.args.at.0 0)) (suc n) (sym c.sequence_length-width.ensures ∙ ap length_said is) (omega arith) in
     let stands : c.args.at.0 < length c.args.text.now =
-        decode-stands c.args.text.now c.args.at.0 c.requires in
+    decode-stands c.args.text.now c.args.at.0 c.requires in
     let row : (n : ℕ) → c.sequence_length-width.result ≡ n → RowAt c.args.text.now c.args.at.0 n =
-        λ n is. let a = c.args in
-    decode-at a.text.now a.at.0 n (stands ) (ap length_said (sym is) ∙ c.sequence_length-width.ensures) in
+    λ n is. let a = c.args in
+    decode-at a.text.now a.at.0 n (stands) (ap length_said (sym is) ∙ c.sequence_length-width.ensures) in
     let valid : (n : ℕ) → c.sequence_length-width.result ≡ n → there (sequence (length_said n) ((get_or c.args.text.now c.args.at.0 0)) ((let t = c.args.text.now in let i = c.args.at.0 in take (length t - (i + 1)) (drop (i + 1) t)))) ≡ true =
-        λ n is. sym (ap there (row  n is)) ∙ c.requires in
+    λ n is. sym (ap there (row n is)) ∙ c.requires in
     let w = c in
-    let m = marked  2 c.in-3.is (omega arith) in
-    record { count_bound = omega arith; bits_bound = omega (arith, m); rest_value = taken-there 3 0x800 (joined  2 ((get_or c.args.text.now c.args.at.0 0) - 0xE0)) (valid  3 c.in-3.is) }
+    let m = marked 2 c.in-3.is (omega arith) in
+    record { count_bound = omega arith; bits_bound = omega (arith, m); rest_value = taken-there 3 0x800 (joined 2 ((get_or c.args.text.now c.args.at.0 0) - 0xE0)) (valid 3 c.in-3.is) }
 
 -- four octets
 pub overflow_sub-a-in-4 : goal.overflow_sub-a-in-4
 overflow_sub-a-in-4 c =
     let marked : (n : ℕ) → c.sequence_length-width.result ≡ suc n → 1 ≤ n → Marked (suc n) ((get_or c.args.text.now c.args.at.0 0)) =
-        λ n is l. announced-marked ((get_or c.args.text.now c.args.at.0 0)) (suc n) (sym c.sequence_length-width.ensures ∙ ap length_said is) (omega arith) in
-    omega (arith, marked  3 c.in-4.is (omega arith))
+    λ n is l. announced-marked ((get_or c.args.text.now c.args.at.0 0)) (suc n) (sym c.sequence_length-width.ensures ∙ ap length_said is) (omega arith) in
+    omega (arith, marked 3 c.in-4.is (omega arith))
 
 pub join-requires-in-4 : goal.join-requires-in-4
 join-requires-in-4 c =
     let joined : ℕ → ℕ → Option ℕ =
-        λ n x. trailed n x ((let t = c.args.text.now in let i = c.args.at.0 in take (length t - (i + 1)) (drop (i + 1) t))) in
+    λ n x. trailed n x ((let t = c.args.text.now in let i = c.args.at.0 in take (length t - (i + 1)) (drop (i + 1) t))) in
     let marked : (n : ℕ) → c.sequence_length-width.result ≡ suc n → 1 ≤ n → Marked (suc n) ((get_or c.args.text.now c.args.at.0 0)) =
-        λ n is l. announced-marked ((get_or c.args.text.now c.args.at.0 0)) (suc n) (sym c.sequence_length-width.ensures ∙ ap length_said is) (omega arith) in
+    λ n is l. announced-marked ((get_or c.args.text.now c.args.at.0 0)) (suc n) (sym c.sequence_length-width.ensures ∙ ap length_said is) (omega arith) in
     let stands : c.args.at.0 < length c.args.text.now =
-        decode-stands c.args.text.now c.args.at.0 c.requires in
+    decode-stands c.args.text.now c.args.at.0 c.requires in
     let row : (n : ℕ) → c.sequence_length-width.result ≡ n → RowAt c.args.text.now c.args.at.0 n =
-        λ n is. let a = c.args in
-    decode-at a.text.now a.at.0 n (stands ) (ap length_said (sym is) ∙ c.sequence_length-width.ensures) in
+    λ n is. let a = c.args in
+    decode-at a.text.now a.at.0 n (stands) (ap length_said (sym is) ∙ c.sequence_length-width.ensures) in
     let valid : (n : ℕ) → c.sequence_length-width.result ≡ n → there (sequence (length_said n) ((get_or c.args.text.now c.args.at.0 0)) ((let t = c.args.text.now in let i = c.args.at.0 in take (length t - (i + 1)) (drop (i + 1) t)))) ≡ true =
-        λ n is. sym (ap there (row  n is)) ∙ c.requires in
+    λ n is. sym (ap there (row n is)) ∙ c.requires in
     let w = c in
-    let m = marked  3 c.in-4.is (omega arith) in
-    record { count_bound = omega arith; bits_bound = omega (arith, m); rest_value = taken-there 4 0x10000 (joined  3 ((get_or c.args.text.now c.args.at.0 0) - 0xF0)) (valid  4 c.in-4.is) }
+    let m = marked 3 c.in-4.is (omega arith) in
+    record { count_bound = omega arith; bits_bound = omega (arith, m); rest_value = taken-there 4 0x10000 (joined 3 ((get_or c.args.text.now c.args.at.0 0) - 0xF0)) (valid 4 c.in-4.is) }
 
 -- two octets
 pub overflow_sub-a-in_default : goal.overflow_sub-a-in_default
 overflow_sub-a-in_default c =
     let marked : (n : ℕ) → c.sequence_length-width.result ≡ suc n → 1 ≤ n → Marked (suc n) ((get_or c.args.text.now c.args.at.0 0)) =
-        λ n is l. announced-marked ((get_or c.args.text.now c.args.at.0 0)) (suc n) (sym c.sequence_length-width.ensures ∙ ap length_said is) (omega arith) in
+    λ n is l. announced-marked ((get_or c.args.text.now c.args.at.0 0)) (suc n) (sym c.sequence_length-width.ensures ∙ ap length_said is) (omega arith) in
     let stands : c.args.at.0 < length c.args.text.now =
-        decode-stands c.args.text.now c.args.at.0 c.requires in
+    decode-stands c.args.text.now c.args.at.0 c.requires in
     let row : (n : ℕ) → c.sequence_length-width.result ≡ n → RowAt c.args.text.now c.args.at.0 n =
-        λ n is. let a = c.args in
-    decode-at a.text.now a.at.0 n (stands ) (ap length_said (sym is) ∙ c.sequence_length-width.ensures) in
+    λ n is. let a = c.args in
+    decode-at a.text.now a.at.0 n (stands) (ap length_said (sym is) ∙ c.sequence_length-width.ensures) in
     let valid : (n : ℕ) → c.sequence_length-width.result ≡ n → there (sequence (length_said n) ((get_or c.args.text.now c.args.at.0 0)) ((let t = c.args.text.now in let i = c.args.at.0 in take (length t - (i + 1)) (drop (i + 1) t)))) ≡ true =
-        λ n is. sym (ap there (row  n is)) ∙ c.requires in
+    λ n is. sym (ap there (row n is)) ∙ c.requires in
     let two : c.sequence_length-width.result ≡ 2 =
-        two_by c.sequence_length-width.result (get_or c.args.text.now c.args.at.0 0) (λ is. true≢false (sym (valid 0 is)))
-        c.in_default.in_default-own.rest.0.0.1 c.in_default.in_default-own.rest.0.1 c.in_default.in_default-own.rest.1 (λ n is. marked (suc n) is (omega arith)) in
-    omega (arith, marked  1 (two ) (omega arith))
+    two_by c.sequence_length-width.result (get_or c.args.text.now c.args.at.0 0) (λ is. true≢false (sym (valid 0 is)))
+    c.in_default.in_default-own.rest.0.0.1 c.in_default.in_default-own.rest.0.1 c.in_default.in_default-own.rest.1 (λ n is. marked (suc n) is (omega arith)) in
+    omega (arith, marked 1 (two) (omega arith))
 
 pub join-requires-in_default : goal.join-requires-in_default
 join-requires-in_default c =
     let joined : ℕ → ℕ → Option ℕ =
-        λ n x. trailed n x ((let t = c.args.text.now in let i = c.args.at.0 in take (length t - (i + 1)) (drop (i + 1) t))) in
+    λ n x. trailed n x ((let t = c.args.text.now in let i = c.args.at.0 in take (length t - (i + 1)) (drop (i + 1) t))) in
     let marked : (n : ℕ) → c.sequence_length-width.result ≡ suc n → 1 ≤ n → Marked (suc n) ((get_or c.args.text.now c.args.at.0 0)) =
-        λ n is l. announced-marked ((get_or c.args.text.now c.args.at.0 0)) (suc n) (sym c.sequence_length-width.ensures ∙ ap length_said is) (omega arith) in
+    λ n is l. announced-marked ((get_or c.args.text.now c.args.at.0 0)) (suc n) (sym c.sequence_length-width.ensures ∙ ap length_said is) (omega arith) in
     let stands : c.args.at.0 < length c.args.text.now =
-        decode-stands c.args.text.now c.args.at.0 c.requires in
+    decode-stands c.args.text.now c.args.at.0 c.requires in
     let row : (n : ℕ) → c.sequence_length-width.result ≡ n → RowAt c.args.text.now c.args.at.0 n =
-        λ n is. let a = c.args in
-    decode-at a.text.now a.at.0 n (stands ) (ap length_said (sym is) ∙ c.sequence_length-width.ensures) in
+    λ n is. let a = c.args in
+    decode-at a.text.now a.at.0 n (stands) (ap length_said (sym is) ∙ c.sequence_length-width.ensures) in
     let valid : (n : ℕ) → c.sequence_length-width.result ≡ n → there (sequence (length_said n) ((get_or c.args.text.now c.args.at.0 0)) ((let t = c.args.text.now in let i = c.args.at.0 in take (length t - (i + 1)) (drop (i + 1) t)))) ≡ true =
-        λ n is. sym (ap there (row  n is)) ∙ c.requires in
+    λ n is. sym (ap there (row n is)) ∙ c.requires in
     let two : c.sequence_length-width.result ≡ 2 =
-        two_by c.sequence_length-width.result (get_or c.args.text.now c.args.at.0 0) (λ is. true≢false (sym (valid 0 is)))
-        c.in_default.in_default-own.rest.0.0.1 c.in_default.in_default-own.rest.0.1 c.in_default.in_default-own.rest.1 (λ n is. marked (suc n) is (omega arith)) in
+    two_by c.sequence_length-width.result (get_or c.args.text.now c.args.at.0 0) (λ is. true≢false (sym (valid 0 is)))
+    c.in_default.in_default-own.rest.0.0.1 c.in_default.in_default-own.rest.0.1 c.in_default.in_default-own.rest.1 (λ n is. marked (suc n) is (omega arith)) in
     let w = c in
-    let m = marked  1 (two ) (omega arith) in
-    record { count_bound = omega arith; bits_bound = omega (arith, m); rest_value = taken-there 2 0x80 (joined  1 ((get_or c.args.text.now c.args.at.0 0) - 0xC0)) (valid  2 (two )) }
+    let m = marked 1 (two) (omega arith) in
+    record { count_bound = omega arith; bits_bound = omega (arith, m); rest_value = taken-there 2 0x80 (joined 1 ((get_or c.args.text.now c.args.at.0 0) - 0xC0)) (valid 2 (two)) }
 
 -- one
 pub returns-in-1 : goal.returns-in-1
 returns-in-1 c =
     let stands : c.args.at.0 < length c.args.text.now =
-        decode-stands c.args.text.now c.args.at.0 c.requires in
+    decode-stands c.args.text.now c.args.at.0 c.requires in
     let row : (n : ℕ) → c.sequence_length-width.result ≡ n → RowAt c.args.text.now c.args.at.0 n =
-        λ n is. let a = c.args in
-    decode-at a.text.now a.at.0 n (stands ) (ap length_said (sym is) ∙ c.sequence_length-width.ensures) in
-    sym (row  1 c.in-1.is)
+    λ n is. let a = c.args in
+    decode-at a.text.now a.at.0 n (stands) (ap length_said (sym is) ∙ c.sequence_length-width.ensures) in
+    sym (row 1 c.in-1.is)
 
 -- three
 pub returns-in-3 : goal.returns-in-3
 returns-in-3 c =
     let joined : ℕ → ℕ → Option ℕ =
-        λ n x. trailed n x ((let t = c.args.text.now in let i = c.args.at.0 in take (length t - (i + 1)) (drop (i + 1) t))) in
+    λ n x. trailed n x ((let t = c.args.text.now in let i = c.args.at.0 in take (length t - (i + 1)) (drop (i + 1) t))) in
     let stands : c.args.at.0 < length c.args.text.now =
-        decode-stands c.args.text.now c.args.at.0 c.requires in
+    decode-stands c.args.text.now c.args.at.0 c.requires in
     let row : (n : ℕ) → c.sequence_length-width.result ≡ n → RowAt c.args.text.now c.args.at.0 n =
-        λ n is. let a = c.args in
-    decode-at a.text.now a.at.0 n (stands ) (ap length_said (sym is) ∙ c.sequence_length-width.ensures) in
+    λ n is. let a = c.args in
+    decode-at a.text.now a.at.0 n (stands) (ap length_said (sym is) ∙ c.sequence_length-width.ensures) in
     let valid : (n : ℕ) → c.sequence_length-width.result ≡ n → there (sequence (length_said n) ((get_or c.args.text.now c.args.at.0 0)) ((let t = c.args.text.now in let i = c.args.at.0 in take (length t - (i + 1)) (drop (i + 1) t)))) ≡ true =
-        λ n is. sym (ap there (row  n is)) ∙ c.requires in
+    λ n is. sym (ap there (row n is)) ∙ c.requires in
     let w = c in
     let is = c.in-3.is in
-    taken_is 3 0x800 c.join.result (joined  2 ((get_or c.args.text.now c.args.at.0 0) - 0xE0)) (valid  3 is) c.join.ensures ∙ sym (row  3 is)
+    taken_is 3 0x800 c.join.result (joined 2 ((get_or c.args.text.now c.args.at.0 0) - 0xE0)) (valid 3 is) c.join.ensures ∙ sym (row 3 is)
 
 -- four
 pub returns-in-4 : goal.returns-in-4
 returns-in-4 c =
     let joined : ℕ → ℕ → Option ℕ =
-        λ n x. trailed n x ((let t = c.args.text.now in let i = c.args.at.0 in take (length t - (i + 1)) (drop (i + 1) t))) in
+    λ n x. trailed n x ((let t = c.args.text.now in let i = c.args.at.0 in take (length t - (i + 1)) (drop (i + 1) t))) in
     let stands : c.args.at.0 < length c.args.text.now =
-        decode-stands c.args.text.now c.args.at.0 c.requires in
+    decode-stands c.args.text.now c.args.at.0 c.requires in
     let row : (n : ℕ) → c.sequence_length-width.result ≡ n → RowAt c.args.text.now c.args.at.0 n =
-        λ n is. let a = c.args in
-    decode-at a.text.now a.at.0 n (stands ) (ap length_said (sym is) ∙ c.sequence_length-width.ensures) in
+    λ n is. let a = c.args in
+    decode-at a.text.now a.at.0 n (stands) (ap length_said (sym is) ∙ c.sequence_length-width.ensures) in
     let valid : (n : ℕ) → c.sequence_length-width.result ≡ n → there (sequence (length_said n) ((get_or c.args.text.now c.args.at.0 0)) ((let t = c.args.text.now in let i = c.args.at.0 in take (length t - (i + 1)) (drop (i + 1) t)))) ≡ true =
-        λ n is. sym (ap there (row  n is)) ∙ c.requires in
+    λ n is. sym (ap there (row n is)) ∙ c.requires in
     let w = c in
     let is = c.in-4.is in
-    taken_is 4 0x10000 c.join-in-4.result (joined  3 ((get_or c.args.text.now c.args.at.0 0) - 0xF0)) (valid  4 is) c.join-in-4.ensures ∙ sym (row  4 is)
+    taken_is 4 0x10000 c.join-in-4.result (joined 3 ((get_or c.args.text.now c.args.at.0 0) - 0xF0)) (valid 4 is) c.join-in-4.ensures ∙ sym (row 4 is)
 
 -- two
 pub returns-in_default : goal.returns-in_default
 returns-in_default c =
     let joined : ℕ → ℕ → Option ℕ =
-        λ n x. trailed n x ((let t = c.args.text.now in let i = c.args.at.0 in take (length t - (i + 1)) (drop (i + 1) t))) in
+    λ n x. trailed n x ((let t = c.args.text.now in let i = c.args.at.0 in take (length t - (i + 1)) (drop (i + 1) t))) in
     let stands : c.args.at.0 < length c.args.text.now =
-        decode-stands c.args.text.now c.args.at.0 c.requires in
+    decode-stands c.args.text.now c.args.at.0 c.requires in
     let row : (n : ℕ) → c.sequence_length-width.result ≡ n → RowAt c.args.text.now c.args.at.0 n =
-        λ n is. let a = c.args in
-    decode-at a.text.now a.at.0 n (stands ) (ap length_said (sym is) ∙ c.sequence_length-width.ensures) in
+    λ n is. let a = c.args in
+    decode-at a.text.now a.at.0 n (stands) (ap length_said (sym is) ∙ c.sequence_length-width.ensures) in
     let marked : (n : ℕ) → c.sequence_length-width.result ≡ suc n → 1 ≤ n → Marked (suc n) ((get_or c.args.text.now c.args.at.0 0)) =
-        λ n is l. announced-marked ((get_or c.args.text.now c.args.at.0 0)) (suc n) (sym c.sequence_length-width.ensures ∙ ap length_said is) (omega arith) in
+    λ n is l. announced-marked ((get_or c.args.text.now c.args.at.0 0)) (suc n) (sym c.sequence_length-width.ensures ∙ ap length_said is) (omega arith) in
     let valid : (n : ℕ) → c.sequence_length-width.result ≡ n → there (sequence (length_said n) ((get_or c.args.text.now c.args.at.0 0)) ((let t = c.args.text.now in let i = c.args.at.0 in take (length t - (i + 1)) (drop (i + 1) t)))) ≡ true =
-        λ n is. sym (ap there (row  n is)) ∙ c.requires in
+    λ n is. sym (ap there (row n is)) ∙ c.requires in
     let two : c.sequence_length-width.result ≡ 2 =
-        two_by c.sequence_length-width.result (get_or c.args.text.now c.args.at.0 0) (λ is. true≢false (sym (valid 0 is)))
-        c.in_default.in_default-own.rest.0.0.1 c.in_default.in_default-own.rest.0.1 c.in_default.in_default-own.rest.1 (λ n is. marked (suc n) is (omega arith)) in
+    two_by c.sequence_length-width.result (get_or c.args.text.now c.args.at.0 0) (λ is. true≢false (sym (valid 0 is)))
+    c.in_default.in_default-own.rest.0.0.1 c.in_default.in_default-own.rest.0.1 c.in_default.in_default-own.rest.1 (λ n is. marked (suc n) is (omega arith)) in
     let w = c in
-    let is = two  in
-    taken_is 2 0x80 c.join-in_default.result (joined  1 ((get_or c.args.text.now c.args.at.0 0) - 0xC0)) (valid  2 is) c.join-in_default.ensures ∙ sym (row  2 is)
+    let is = two in
+    taken_is 2 0x80 c.join-in_default.result (joined 1 ((get_or c.args.text.now c.args.at.0 0) - 0xC0)) (valid 2 is) c.join-in_default.ensures ∙ sym (row 2 is)

@@ -24,25 +24,25 @@ use Rattle.decompose.proofs.depth.+measure.Goals.{then-not-decomposes+else-total
 pub measure-requires : goal.measure-requires
 measure-requires t c =
     let ruled : syllable c.args.c.0 ≡ true =
-        c.requires.listed.by-rule c.if-parts-eq0.true in
+    c.requires.listed.by-rule c.if-parts-eq0.true in
     let none = c in
     let s = none in
     let x = s.args.c.0 in
-    let some = (syllable-split ((table c.args.entries.now c.args.pool.now)) x (ruled ) c.parts_among-by_rule.ensures).some in
-    let listed = listed-jamo ((table c.args.entries.now c.args.pool.now)) x _ (ruled ) c.parts_among-by_rule.ensures in
+    let some = (syllable-split ((table c.args.entries.now c.args.pool.now)) x (ruled) c.parts_among-by_rule.ensures).some in
+    let listed = listed-jamo ((table c.args.entries.now c.args.pool.now)) x _ (ruled) c.parts_among-by_rule.ensures in
     (omega (arith, s.decreases, none.if-parts-eq0.true, some), (s.requires.pool_value, listed))
 
 -- no level left
 pub returns-then-levels_left-eq0 : goal.returns-then-levels_left-eq0
 returns-then-levels_left-eq0 t c =
     let split : let s = c in Split ((mapping_of ((table c.args.entries.now c.args.pool.now)))) s.args.c.0 s.args.parts.now =
-        listed-split c.requires.listed c.if-parts-eq0.false in
+    listed-split c.requires.listed c.if-parts-eq0.false in
     let s = c in
     let a = s.args in
     let none_left : a.levels_left ≡ 0 = c.if-levels_left-eq0.true in
     sym
     (ap (λ n. measured ((mapping_of ((table c.args.entries.now c.args.pool.now)))) n a.room a.c.0) none_left
-    ∙ measured-none (split ) a.room)
+    ∙ measured-none (split) a.room)
 
 -- before the first part
 pub loop-i-init : goal.loop-i-init
@@ -52,81 +52,81 @@ loop-i-init t c = measuring-start
 pub returns-then-total-room : goal.returns-then-total-room
 returns-then-total-room t c =
     let level : 1 ≤ c.args.levels_left =
-        omega (arith, c.if-levels_left-eq0.false) in
+    omega (arith, c.if-levels_left-eq0.false) in
     let split : let s = c in Split ((mapping_of ((table c.args.entries.now c.args.pool.now)))) s.args.c.0 s.args.parts.now =
-        listed-split c.requires.listed c.if-parts-eq0.false in
+    listed-split c.requires.listed c.if-parts-eq0.false in
     let parts_decide : let s = c in measured ((mapping_of ((table c.args.entries.now c.args.pool.now)))) s.args.levels_left s.args.room s.args.c.0 ≡ measured_parts ((mapping_of ((table c.args.entries.now c.args.pool.now)))) (s.args.levels_left - 1) s.args.room s.args.parts.now =
-        let s = c in
-    measured-parts (split ) s.args.levels_left s.args.room (level ) in
+    let s = c in
+    measured-parts (split) s.args.levels_left s.args.room (level) in
     let stop : (let s = c in measured ((mapping_of ((table c.args.entries.now c.args.pool.now)))) (s.args.levels_left - 1) ((c.args.room - c.loop-i.total)) ((get_or c.args.parts.now c.loop-i.i 0))) ≡ none → let s = c in none ≡ measured ((mapping_of ((table c.args.entries.now c.args.pool.now)))) s.args.levels_left s.args.room s.args.c.0 =
-        λ too_much. measuring-stop c.loop-i.invariant ((c.loop-i-test.true)) too_much ∙ sym (parts_decide ) in
+    λ too_much. measuring-stop c.loop-i.invariant ((c.loop-i-test.true)) too_much ∙ sym (parts_decide) in
     let whole : (let s = c in measured ((mapping_of ((table c.args.entries.now c.args.pool.now)))) (s.args.levels_left - 1) ((c.args.room - c.loop-i.total)) ((get_or c.args.parts.now c.loop-i.i 0))) ≡ when (leb 1 ((c.args.room - c.loop-i.total))) 1 =
-        let looked = c in
+    let looked = c in
     let s = looked in
     let stays = sym looked.decomposes.ensures ∙ c.if-not-decomposes.true in
     measured-whole ((mapping_of ((table c.args.entries.now c.args.pool.now)))) (s.args.levels_left - 1) ((c.args.room - c.loop-i.total)) ((get_or c.args.parts.now c.loop-i.i 0))
     (listed-none ((table c.args.entries.now c.args.pool.now)) ((get_or c.args.parts.now c.loop-i.i 0)) _ looked.entry_parts-inner.ensures stays) in
     let looked = c in
-    stop  (whole  ∙ ap (λ b. when b 1) (lt-leb 1 ((c.args.room - c.loop-i.total)) (omega (arith, c.if-total-room.true))))
+    stop (whole ∙ ap (λ b. when b 1) (lt-leb 1 ((c.args.room - c.loop-i.total)) (omega (arith, c.if-total-room.true))))
 
 -- one level down, with what the entries say of the part
 pub measure-measurement-requires : goal.measure-measurement-requires
 measure-measurement-requires t c =
     let level : 1 ≤ c.args.levels_left =
-        omega (arith, c.if-levels_left-eq0.false) in
+    omega (arith, c.if-levels_left-eq0.false) in
     let split : let s = c in Split ((mapping_of ((table c.args.entries.now c.args.pool.now)))) s.args.c.0 s.args.parts.now =
-        listed-split c.requires.listed c.if-parts-eq0.false in
+    listed-split c.requires.listed c.if-parts-eq0.false in
     let looked = c in
     let before = looked in
     let s = looked in
     let splits = sym looked.decomposes.ensures ∙ c.if-not-decomposes.false in
     let listed = listed-some ((table c.args.entries.now c.args.pool.now)) ((get_or c.args.parts.now c.loop-i.i 0)) _ s.requires.pool_value looked.entry_parts-inner.ensures splits in
-    (omega (arith, level , s.decreases, (split ).some), (s.requires.pool_value, listed))
+    (omega (arith, level, s.decreases, (split).some), (s.requires.pool_value, listed))
 
 -- a part that is too much
 pub returns-in-TooMuch : goal.returns-in-TooMuch
 returns-in-TooMuch t c =
     let level : 1 ≤ c.args.levels_left =
-        omega (arith, c.if-levels_left-eq0.false) in
+    omega (arith, c.if-levels_left-eq0.false) in
     let split : let s = c in Split ((mapping_of ((table c.args.entries.now c.args.pool.now)))) s.args.c.0 s.args.parts.now =
-        listed-split c.requires.listed c.if-parts-eq0.false in
+    listed-split c.requires.listed c.if-parts-eq0.false in
     let parts_decide : let s = c in measured ((mapping_of ((table c.args.entries.now c.args.pool.now)))) s.args.levels_left s.args.room s.args.c.0 ≡ measured_parts ((mapping_of ((table c.args.entries.now c.args.pool.now)))) (s.args.levels_left - 1) s.args.room s.args.parts.now =
-        let s = c in
-    measured-parts (split ) s.args.levels_left s.args.room (level ) in
+    let s = c in
+    measured-parts (split) s.args.levels_left s.args.room (level) in
     let stop : (let s = c in measured ((mapping_of ((table c.args.entries.now c.args.pool.now)))) (s.args.levels_left - 1) ((c.args.room - c.loop-i.total)) ((get_or c.args.parts.now c.loop-i.i 0))) ≡ none → let s = c in none ≡ measured ((mapping_of ((table c.args.entries.now c.args.pool.now)))) s.args.levels_left s.args.room s.args.c.0 =
-        λ too_much. measuring-stop c.loop-i.invariant ((c.loop-i-test.true)) too_much ∙ sym (parts_decide ) in
+    λ too_much. measuring-stop c.loop-i.invariant ((c.loop-i-test.true)) too_much ∙ sym (parts_decide) in
     let called = c in
-    stop  (sym called.measure-measurement.ensures ∙ ap measured_size c.in-TooMuch.is)
+    stop (sym called.measure-measurement.ensures ∙ ap measured_size c.in-TooMuch.is)
 
 -- one part more, either way
 pub loop-i-preserved : goal.loop-i-preserved
 loop-i-preserved t c =
     let more : (k : ℕ) → (let s = c in measured ((mapping_of ((table c.args.entries.now c.args.pool.now)))) (s.args.levels_left - 1) ((c.args.room - c.loop-i.total)) ((get_or c.args.parts.now c.loop-i.i 0))) ≡ some k → let l = c in let s = c in Measuring ((mapping_of ((table c.args.entries.now c.args.pool.now)))) (s.args.levels_left - 1) s.args.parts.now s.args.room (l.loop-i.total + k) (l.loop-i.i + 1) =
-        λ k fits. measuring-more c.loop-i.invariant ((c.loop-i-test.true)) fits in
+    λ k fits. measuring-more c.loop-i.invariant ((c.loop-i-test.true)) fits in
     elim c.if-not-decomposes.branch [
-      then-not-decomposes+else-total-room w ↦
-        rw w.total-is
-        (more 1
-        (measured-whole (mapping_of (table c.args.entries.now c.args.pool.now)) (c.args.levels_left - 1)
-        (c.args.room - c.loop-i.total)
-        (get_or c.args.parts.now c.loop-i.i 0)
-        (listed-none (table c.args.entries.now c.args.pool.now) (get_or c.args.parts.now c.loop-i.i 0) _
-        c.entry_parts-inner.ensures (sym c.decomposes.ensures ∙ w.if-not-decomposes.true))
-        ∙ ap (λ b. when b 1)
-        (le-leb 1 (c.args.room - c.loop-i.total) (omega (arith, w.if-total-room.false, c.loop-i.invariant.fits)))))
-    | else-not-decomposes+in-Fits w ↦
-        rw w.total-is (more _ (sym w.measure-measurement.ensures ∙ ap measured_size w.in-Fits.is))
+      | then-not-decomposes+else-total-room w ↦
+          rw w.total-is
+          (more 1
+          (measured-whole (mapping_of (table c.args.entries.now c.args.pool.now)) (c.args.levels_left - 1)
+          (c.args.room - c.loop-i.total)
+          (get_or c.args.parts.now c.loop-i.i 0)
+          (listed-none (table c.args.entries.now c.args.pool.now) (get_or c.args.parts.now c.loop-i.i 0) _
+          c.entry_parts-inner.ensures (sym c.decomposes.ensures ∙ w.if-not-decomposes.true))
+          ∙ ap (λ b. when b 1)
+          (le-leb 1 (c.args.room - c.loop-i.total) (omega (arith, w.if-total-room.false, c.loop-i.invariant.fits)))))
+      | else-not-decomposes+in-Fits w ↦
+          rw w.total-is (more _ (sym w.measure-measurement.ensures ∙ ap measured_size w.in-Fits.is))
     ]
 
 -- every part was measured
 pub returns : goal.returns
 returns t c =
     let level : 1 ≤ c.args.levels_left =
-        omega (arith, c.if-levels_left-eq0.false) in
+    omega (arith, c.if-levels_left-eq0.false) in
     let split : let s = c in Split ((mapping_of ((table c.args.entries.now c.args.pool.now)))) s.args.c.0 s.args.parts.now =
-        listed-split c.requires.listed c.if-parts-eq0.false in
+    listed-split c.requires.listed c.if-parts-eq0.false in
     let parts_decide : let s = c in measured ((mapping_of ((table c.args.entries.now c.args.pool.now)))) s.args.levels_left s.args.room s.args.c.0 ≡ measured_parts ((mapping_of ((table c.args.entries.now c.args.pool.now)))) (s.args.levels_left - 1) s.args.room s.args.parts.now =
-        let s = c in
-    measured-parts (split ) s.args.levels_left s.args.room (level ) in
+    let s = c in
+    measured-parts (split) s.args.levels_left s.args.room (level) in
     let l = c in
-    measuring-done l.loop-i.invariant c.loop-i-test.false ∙ sym (parts_decide )
+    measuring-done l.loop-i.invariant c.loop-i-test.false ∙ sym (parts_decide)

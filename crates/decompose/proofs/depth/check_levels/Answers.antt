@@ -45,11 +45,11 @@ fits m c k e = go (unfolds m c) e
 pub measure-measurement-requires : goal.measure-measurement-requires
 measure-measurement-requires c =
     let taken : let l = c in c.parts_at-parts.result.now ≡ parts_of ((table c.args.entries.now c.args.pool.now)) (code_at ((table c.args.entries.now c.args.pool.now)).entries l.loop-i.i) =
-        let l = c in
+    let l = c in
     let t = (table c.args.entries.now c.args.pool.now) in
     c.parts_at-parts.ensures ∙ sym (formed-parts-at t l.requires l.loop-i.i (omega arith)) in
     let parted = c in
-    record { pool_value = parted.requires; listed = rw c.code_at.ensures (split-listed (parts-some (taken ) c.if-parts-ne0.true)) }
+    record { pool_value = parted.requires; listed = rw c.code_at.ensures (split-listed (parts-some (taken) c.if-parts-ne0.true)) }
 
 -- an entry whose code point has too much
 pub returns-in-TooMuch : goal.returns-in-TooMuch
@@ -69,7 +69,7 @@ returns-in-TooMuch c =
 pub loop-i-preserved : goal.loop-i-preserved
 loop-i-preserved c =
     let taken : let l = c in c.parts_at-parts.result.now ≡ parts_of ((table c.args.entries.now c.args.pool.now)) (code_at ((table c.args.entries.now c.args.pool.now)).entries l.loop-i.i) =
-        let l = c in
+    let l = c in
     let t = (table c.args.entries.now c.args.pool.now) in
     c.parts_at-parts.ensures ∙ sym (formed-parts-at t l.requires l.loop-i.i (omega arith)) in
     let parted = c in
@@ -78,9 +78,9 @@ loop-i-preserved c =
     let code = code_at ((table c.args.entries.now c.args.pool.now)).entries l.loop-i.i in
     let sound : faulty_level ((table c.args.entries.now c.args.pool.now)) l.loop-i.i ≡ false =
     elim c.if-parts-ne0.branch [
-      then-parts-ne0+in_default w ↦
-        fits m code _ (rw w.code_at.ensures at (sym w.measure-measurement.ensures ∙ ap measured_size w.in_default.is))
-    | else-parts-ne0 w ↦ ap not (unfolds-whole m code (parts_none m code _ taken w.if-parts-ne0.false))
+      | then-parts-ne0+in_default w ↦
+          fits m code _ (rw w.code_at.ensures at (sym w.measure-measurement.ensures ∙ ap measured_size w.in_default.is))
+      | else-parts-ne0 w ↦ ap not (unfolds-whole m code (parts_none m code _ taken w.if-parts-ne0.false))
     ]
     in
     (search rules, below_more _ _ l.loop-i.invariant.1 sound)
@@ -89,7 +89,7 @@ loop-i-preserved c =
 pub returns-then-not-syllables_fit : goal.returns-then-not-syllables_fit
 returns-then-not-syllables_fit c =
     let passed : let t = (table c.args.entries.now c.args.pool.now) in level_fault t ≡ when (faulty_syllable (mapping_of t)) (entry_count t.entries) =
-        let l = c in
+    let l = c in
     let t = (table c.args.entries.now c.args.pool.now) in
     or_else-second _ _ (lowest-nowhere (faulty_level t) (entry_count t.entries) (λ k h. l.loop-i.invariant.1 k (omega arith))) in
     let called = c in
@@ -97,7 +97,7 @@ returns-then-not-syllables_fit c =
     let t = (table c.args.entries.now c.args.pool.now) in
     let unfit = sym called.syllables_fit.ensures ∙ c.if-not-syllables_fit.true in
     let faulty = not-false (faulty_syllable (mapping_of t)) unfit in
-    let found = passed  ∙ ap (λ b. when b (entry_count t.entries)) faulty
+    let found = passed ∙ ap (λ b. when b (entry_count t.entries)) faulty
     ∙ ap some (sym l.entry_count-count.ensures) in
     ap check_outcome c.refused_at-then-not-syllables_fit.ensures ∙ sym (ap (λ (o : Option ℕ). answer (refused_at 7 o) []) found)
 
@@ -105,11 +105,11 @@ returns-then-not-syllables_fit c =
 pub returns : goal.returns
 returns c =
     let passed : let t = (table c.args.entries.now c.args.pool.now) in level_fault t ≡ when (faulty_syllable (mapping_of t)) (entry_count t.entries) =
-        let l = c in
+    let l = c in
     let t = (table c.args.entries.now c.args.pool.now) in
     or_else-second _ _ (lowest-nowhere (faulty_level t) (entry_count t.entries) (λ k h. l.loop-i.invariant.1 k (omega arith))) in
     let called = c in
     let t = (table c.args.entries.now c.args.pool.now) in
     let sound = not-true (faulty_syllable (mapping_of t)) (sym called.syllables_fit.ensures ∙ c.if-not-syllables_fit.false) in
-    let nowhere = passed  ∙ ap (λ b. when b (entry_count t.entries)) sound in
+    let nowhere = passed ∙ ap (λ b. when b (entry_count t.entries)) sound in
     sym (ap (λ (o : Option ℕ). answer (refused_at 7 o) []) nowhere)

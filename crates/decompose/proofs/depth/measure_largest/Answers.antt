@@ -17,8 +17,8 @@ loop-i-init c = let s = c in (omega arith, largest-start ((mapping_of (table c.a
 pub measure_jamo-measurement-requires : goal.measure_jamo-measurement-requires
 measure_jamo-measurement-requires c =
     let below : let s = c in s.args.from + c.loop-i.i < s_base =
-        omega (arith, c.loop-i-test.true, c.requires.count_bound) in
-    record { pool_value = c.requires.pool_value; c_value = syllable-below _ (below ) }
+    omega (arith, c.loop-i-test.true, c.requires.count_bound) in
+    record { pool_value = c.requires.pool_value; c_value = syllable-below _ (below) }
 
 -- one is too much
 pub returns-in-TooMuch : goal.returns-in-TooMuch

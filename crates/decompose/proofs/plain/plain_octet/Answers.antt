@@ -12,14 +12,14 @@ use Rattle.decompose.proofs.plain.plain_octet.Goals as goal
 pub find_entry-place-requires : goal.find_entry-place-requires
 find_entry-place-requires c =
     let findable : Findable ((table c.args.entries.now c.args.pool.now)) (pages c.args.presence.now c.args.ranks.now) =
-        record { form = accepted-form ((table c.args.entries.now c.args.pool.now)) c.requires.usable.accepted; paged = c.requires.usable.paged } in
+    record { form = accepted-form ((table c.args.entries.now c.args.pool.now)) c.requires.usable.accepted; paged = c.requires.usable.paged } in
     let s = c in
     record { findable = findable; c_value = scalar-ascii s.args.c.0 s.requires.c_bound }
 
 pub title_parts-parts-requires : goal.title_parts-parts-requires
 title_parts-parts-requires c =
     let findable : Findable ((table c.args.entries.now c.args.pool.now)) (pages c.args.presence.now c.args.ranks.now) =
-        record { form = accepted-form ((table c.args.entries.now c.args.pool.now)) c.requires.usable.accepted; paged = c.requires.usable.paged } in
+    record { form = accepted-form ((table c.args.entries.now c.args.pool.now)) c.requires.usable.accepted; paged = c.requires.usable.paged } in
     let read = c in
     record { findable = findable; place_value = read.find_entry-place.ensures }
 

@@ -20,8 +20,8 @@ loop-k-preserved c =
     in (
       omega arith,
       elim c.if-d-least.branch [
-        then-d-least w ↦ least_more at-loop.loop-k.invariant.1 (omega arith) (λ h. omega (arith, zero h))
-      | else-d-least w ↦ least_more at-loop.loop-k.invariant.1 (omega arith) (λ h. omega (arith, zero h))
+        | then-d-least w ↦ least_more at-loop.loop-k.invariant.1 (omega arith) (λ h. omega (arith, zero h))
+        | else-d-least w ↦ least_more at-loop.loop-k.invariant.1 (omega arith) (λ h. omega (arith, zero h))
       ],
     )
 

@@ -20,25 +20,25 @@ returns-then-m-eq0 c = sym (occurrence-matched unmatched-none (record { same = �
 pub returns-then-i-m : goal.returns-then-i-m
 returns-then-i-m c =
     let joined : Reached c.args.needle.now c.args.hay.now c.loop-j.j c.if-i-eq0.j c.loop-j.i =
-        let at = c.loop-j.invariant in
+    let at = c.loop-j.invariant in
     elim c.if-i-eq0.branch [
-      then-i-eq0 w ↦ reached-skipped w.if-i-eq0.true at.2 w.skip-next.ensures w.j-is
-    | else-i-eq0 w ↦ reached-kept at.2 at.3 (omega arith) at.1 w.j-is
+      | then-i-eq0 w ↦ reached-skipped w.if-i-eq0.true at.2 w.skip-next.ensures w.j-is
+      | else-i-eq0 w ↦ reached-kept at.2 at.3 (omega arith) at.1 w.j-is
     ] in
-    let at = joined  in
+    let at = joined in
     sym (occurrence-matched at.unmatched (rw c.if-i-m.true at c.extend-i.ensures.matched) at.room)
 
 -- one differs
 pub loop-j-preserved : goal.loop-j-preserved
 loop-j-preserved c =
     let joined : Reached c.args.needle.now c.args.hay.now c.loop-j.j c.if-i-eq0.j c.loop-j.i =
-        let at = c.loop-j.invariant in
+    let at = c.loop-j.invariant in
     elim c.if-i-eq0.branch [
-      then-i-eq0 w ↦ reached-skipped w.if-i-eq0.true at.2 w.skip-next.ensures w.j-is
-    | else-i-eq0 w ↦ reached-kept at.2 at.3 (omega arith) at.1 w.j-is
+      | then-i-eq0 w ↦ reached-skipped w.if-i-eq0.true at.2 w.skip-next.ensures w.j-is
+      | else-i-eq0 w ↦ reached-kept at.2 at.3 (omega arith) at.1 w.j-is
     ] in
     let at_join = c in
-    let at = joined  in
+    let at = joined in
     let e = c.extend-i.ensures in
     let shift = c.least_shift-s.ensures in
     let rows = at_join.requires.rows in (

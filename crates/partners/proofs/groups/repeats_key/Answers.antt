@@ -22,7 +22,7 @@ returns-then-row-i-lt2 c =
 pub returns-in-Equal : goal.returns-in-Equal
 returns-in-Equal c =
     let compared : (o : Ordering) → compared_order c.compare_octets-comparison.result ≡ o → compare_is_eq o ≡ key_repeats (key_in c.args.store.now c.args.ends.now) (drop c.args.i c.args.row.now) =
-        λ o e. let s = c in
+    λ o e. let s = c in
     let key = key_in s.args.store.now s.args.ends.now in
     let x = get_or s.args.row.now s.args.i 0 in
     let y = get_or s.args.row.now (s.args.i + 1) 0 in
@@ -35,12 +35,12 @@ returns-in-Equal c =
       arith,
       c.if-row-i-lt2.false,
     ))) in
-    compared  Ordering.eq (ap compared_order c.in-Equal.is)
+    compared Ordering.eq (ap compared_order c.in-Equal.is)
 
 pub returns-in-Less : goal.returns-in-Less
 returns-in-Less c =
     let compared : (o : Ordering) → compared_order c.compare_octets-comparison.result ≡ o → compare_is_eq o ≡ key_repeats (key_in c.args.store.now c.args.ends.now) (drop c.args.i c.args.row.now) =
-        λ o e. let s = c in
+    λ o e. let s = c in
     let key = key_in s.args.store.now s.args.ends.now in
     let x = get_or s.args.row.now s.args.i 0 in
     let y = get_or s.args.row.now (s.args.i + 1) 0 in
@@ -53,12 +53,12 @@ returns-in-Less c =
       arith,
       c.if-row-i-lt2.false,
     ))) in
-    compared  Ordering.lt (ap compared_order c.in-Less.is)
+    compared Ordering.lt (ap compared_order c.in-Less.is)
 
 pub returns-in-Greater : goal.returns-in-Greater
 returns-in-Greater c =
     let compared : (o : Ordering) → compared_order c.compare_octets-comparison.result ≡ o → compare_is_eq o ≡ key_repeats (key_in c.args.store.now c.args.ends.now) (drop c.args.i c.args.row.now) =
-        λ o e. let s = c in
+    λ o e. let s = c in
     let key = key_in s.args.store.now s.args.ends.now in
     let x = get_or s.args.row.now s.args.i 0 in
     let y = get_or s.args.row.now (s.args.i + 1) 0 in
@@ -71,4 +71,4 @@ returns-in-Greater c =
       arith,
       c.if-row-i-lt2.false,
     ))) in
-    compared  Ordering.gt (ap compared_order c.in-Greater.is)
+    compared Ordering.gt (ap compared_order c.in-Greater.is)

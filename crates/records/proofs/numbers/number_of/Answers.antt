@@ -25,22 +25,22 @@ loop-i-init c = (omega arith, rw (drop-length c.args.octets.now))
 pub overflow_mul-n : goal.overflow_mul-n
 overflow_mul-n c =
     let below : c.loop-i.n < 16777216 =
-        let l = c in
+    let l = c in
     let octets = l.args.octets.now in
     rw l.loop-i.invariant.1
     (three (drop l.loop-i.i octets) (octets-drop l.loop-i.i octets (λ i. omega (arith, c.type_inv.octets i)))
     (omega (arith, length-drop l.loop-i.i octets, l.requires))) in
-    omega (arith, below )
+    omega (arith, below)
 
 pub overflow_add-n : goal.overflow_add-n
 overflow_add-n c =
     let below : c.loop-i.n < 16777216 =
-        let l = c in
+    let l = c in
     let octets = l.args.octets.now in
     rw l.loop-i.invariant.1
     (three (drop l.loop-i.i octets) (octets-drop l.loop-i.i octets (λ i. omega (arith, c.type_inv.octets i)))
     (omega (arith, length-drop l.loop-i.i octets, l.requires))) in
-    omega (arith, below , c.type_inv.octets (c.loop-i.i - 1))
+    omega (arith, below, c.type_inv.octets (c.loop-i.i - 1))
 
 -- one octet more
 pub loop-i-preserved : goal.loop-i-preserved

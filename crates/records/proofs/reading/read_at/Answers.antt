@@ -31,28 +31,28 @@ returns-then-records-at c =
 pub overflow_add-n : goal.overflow_add-n
 overflow_add-n c =
     let framed : frame_length c.frame_of-frame.result ≡ whole_length ((drop c.args.position.0 c.args.records.now)) =
-        let a = c.args in rw (take-drop a.position.0 a.records.now) at c.frame_of-frame.ensures in
+    let a = c.args in rw (take-drop a.position.0 a.records.now) at c.frame_of-frame.ensures in
     let unshort : (short ((drop c.args.position.0 c.args.records.now)) ≡ false) × ((c.in-Whole.n) ≡ said_length ((drop c.args.position.0 c.args.records.now))) =
-        whole_length-some _ ((c.in-Whole.n)) (sym (ap frame_length c.in-Whole.is) ∙ framed ) in
+    whole_length-some _ ((c.in-Whole.n)) (sym (ap frame_length c.in-Whole.is) ∙ framed) in
     let whole : Whole ((drop c.args.position.0 c.args.records.now)) =
-        short-false ((drop c.args.position.0 c.args.records.now)) (unshort ).0 in
+    short-false ((drop c.args.position.0 c.args.records.now)) (unshort).0 in
     let a = c.args in
-    omega (arith, (whole ).held, (whole ).four, (unshort ).1, length-drop a.position.0 a.records.now)
+    omega (arith, (whole).held, (whole).four, (unshort).1, length-drop a.position.0 a.records.now)
 
 pub slice_bounds-read_following-end : goal.slice_bounds-read_following-end
 slice_bounds-read_following-end c =
     let framed : frame_length c.frame_of-frame.result ≡ whole_length ((drop c.args.position.0 c.args.records.now)) =
-        let a = c.args in rw (take-drop a.position.0 a.records.now) at c.frame_of-frame.ensures in
+    let a = c.args in rw (take-drop a.position.0 a.records.now) at c.frame_of-frame.ensures in
     let unshort : (short ((drop c.args.position.0 c.args.records.now)) ≡ false) × ((c.in-Whole.n) ≡ said_length ((drop c.args.position.0 c.args.records.now))) =
-        whole_length-some _ ((c.in-Whole.n)) (sym (ap frame_length c.in-Whole.is) ∙ framed ) in
+    whole_length-some _ ((c.in-Whole.n)) (sym (ap frame_length c.in-Whole.is) ∙ framed) in
     let whole : Whole ((drop c.args.position.0 c.args.records.now)) =
-        short-false ((drop c.args.position.0 c.args.records.now)) (unshort ).0 in
+    short-false ((drop c.args.position.0 c.args.records.now)) (unshort).0 in
     let a = c.args in
     omega (
       arith,
-      (whole ).held,
-      (whole ).four,
-      (unshort ).1,
+      (whole).held,
+      (whole).four,
+      (unshort).1,
       ap length (take-drop a.position.0 a.records.now),
       length-drop a.position.0 a.records.now,
     )
@@ -60,55 +60,55 @@ slice_bounds-read_following-end c =
 pub read_following-requires : goal.read_following-requires
 read_following-requires c =
     let framed : frame_length c.frame_of-frame.result ≡ whole_length ((drop c.args.position.0 c.args.records.now)) =
-        let a = c.args in rw (take-drop a.position.0 a.records.now) at c.frame_of-frame.ensures in
+    let a = c.args in rw (take-drop a.position.0 a.records.now) at c.frame_of-frame.ensures in
     let unshort : (short ((drop c.args.position.0 c.args.records.now)) ≡ false) × ((c.in-Whole.n) ≡ said_length ((drop c.args.position.0 c.args.records.now))) =
-        whole_length-some _ ((c.in-Whole.n)) (sym (ap frame_length c.in-Whole.is) ∙ framed ) in
+    whole_length-some _ ((c.in-Whole.n)) (sym (ap frame_length c.in-Whole.is) ∙ framed) in
     let lent : take (4 + (c.in-Whole.n) - 4) (drop 4 (take ((length c.args.records.now - c.args.position.0)) ((drop c.args.position.0 c.args.records.now)))) ≡ following ((drop c.args.position.0 c.args.records.now)) =
-        let a = c.args in
-    let n : 4 + (c.in-Whole.n) - 4 ≡ said_length ((drop c.args.position.0 c.args.records.now)) = omega (arith, (unshort ).1) in
+    let a = c.args in
+    let n : 4 + (c.in-Whole.n) - 4 ≡ said_length ((drop c.args.position.0 c.args.records.now)) = omega (arith, (unshort).1) in
     rw (take-drop a.position.0 a.records.now, n) in
     let whole : Whole ((drop c.args.position.0 c.args.records.now)) =
-        short-false ((drop c.args.position.0 c.args.records.now)) (unshort ).0 in
+    short-false ((drop c.args.position.0 c.args.records.now)) (unshort).0 in
     let w = c in
-    let n = length-following ((drop c.args.position.0 c.args.records.now)) (whole ) in
-    record { in_bounds = rw (lent , n) (whole ).kind; octets_len_bound = rw (lent , n) (omega (arith, (unshort ).1)) }
+    let n = length-following ((drop c.args.position.0 c.args.records.now)) (whole) in
+    record { in_bounds = rw (lent, n) (whole).kind; octets_len_bound = rw (lent, n) (omega (arith, (unshort).1)) }
 
 -- a whole record
 pub returns-in-Whole : goal.returns-in-Whole
 returns-in-Whole c =
     let inside : c.args.position.0 ≡ length c.args.records.now → ⊥ =
-        c.if-at-records.false in
+    c.if-at-records.false in
     let from_rest : read_at (rules_for c.args.keys) c.args.records.now c.args.position.0 ≡ read_rest (rules_for c.args.keys) c.args.position.0 ((drop c.args.position.0 c.args.records.now)) =
-        let a = c.args in read_at-rest (rules_for a.keys) a.records.now a.position.0 (inside ) in
+    let a = c.args in read_at-rest (rules_for a.keys) a.records.now a.position.0 (inside) in
     let framed : frame_length c.frame_of-frame.result ≡ whole_length ((drop c.args.position.0 c.args.records.now)) =
-        let a = c.args in rw (take-drop a.position.0 a.records.now) at c.frame_of-frame.ensures in
+    let a = c.args in rw (take-drop a.position.0 a.records.now) at c.frame_of-frame.ensures in
     let unshort : (short ((drop c.args.position.0 c.args.records.now)) ≡ false) × ((c.in-Whole.n) ≡ said_length ((drop c.args.position.0 c.args.records.now))) =
-        whole_length-some _ ((c.in-Whole.n)) (sym (ap frame_length c.in-Whole.is) ∙ framed ) in
+    whole_length-some _ ((c.in-Whole.n)) (sym (ap frame_length c.in-Whole.is) ∙ framed) in
     let lent : take (4 + (c.in-Whole.n) - 4) (drop 4 (take ((length c.args.records.now - c.args.position.0)) ((drop c.args.position.0 c.args.records.now)))) ≡ following ((drop c.args.position.0 c.args.records.now)) =
-        let a = c.args in
-    let n : 4 + (c.in-Whole.n) - 4 ≡ said_length ((drop c.args.position.0 c.args.records.now)) = omega (arith, (unshort ).1) in
+    let a = c.args in
+    let n : 4 + (c.in-Whole.n) - 4 ≡ said_length ((drop c.args.position.0 c.args.records.now)) = omega (arith, (unshort).1) in
     rw (take-drop a.position.0 a.records.now, n) in
     let w = c in
     let a = w.args in
     c.read_following.ensures
     ∙ ap₂ (λ (n : ℕ) (octets : List ℕ). reading_outcome (read_following (rules_for a.keys) (a.position.0 + 4 + n) octets))
-    (unshort ).1
-    (lent )
+    (unshort).1
+    (lent)
     ∙ sym
     (ap reading_outcome
-    (from_rest  ∙ read_rest-whole (rules_for a.keys) a.position.0 ((drop c.args.position.0 c.args.records.now)) (unshort ).0))
+    (from_rest ∙ read_rest-whole (rules_for a.keys) a.position.0 ((drop c.args.position.0 c.args.records.now)) (unshort).0))
 
 -- fewer octets than it says
 pub returns-in-Short : goal.returns-in-Short
 returns-in-Short c =
     let framed : frame_length c.frame_of-frame.result ≡ whole_length ((drop c.args.position.0 c.args.records.now)) =
-        let a = c.args in rw (take-drop a.position.0 a.records.now) at c.frame_of-frame.ensures in
+    let a = c.args in rw (take-drop a.position.0 a.records.now) at c.frame_of-frame.ensures in
     let inside : c.args.position.0 ≡ length c.args.records.now → ⊥ =
-        c.if-at-records.false in
+    c.if-at-records.false in
     let from_rest : read_at (rules_for c.args.keys) c.args.records.now c.args.position.0 ≡ read_rest (rules_for c.args.keys) c.args.position.0 ((drop c.args.position.0 c.args.records.now)) =
-        let a = c.args in read_at-rest (rules_for a.keys) a.records.now a.position.0 (inside ) in
+    let a = c.args in read_at-rest (rules_for a.keys) a.records.now a.position.0 (inside) in
     let framing = c in
     let a = framing.args in
-    let few = whole_length-none ((drop c.args.position.0 c.args.records.now)) (sym (ap frame_length c.in-Short.is) ∙ framed ) in
+    let few = whole_length-none ((drop c.args.position.0 c.args.records.now)) (sym (ap frame_length c.in-Short.is) ∙ framed) in
     ap record_outcome c.stopped-in-Short.ensures
-    ∙ sym (ap reading_outcome (from_rest  ∙ read_rest-short (rules_for a.keys) a.position.0 ((drop c.args.position.0 c.args.records.now)) few))
+    ∙ sym (ap reading_outcome (from_rest ∙ read_rest-short (rules_for a.keys) a.position.0 ((drop c.args.position.0 c.args.records.now)) few))

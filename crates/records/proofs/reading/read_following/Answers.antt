@@ -36,48 +36,48 @@ other-read false next octets one two = reads-unknown list_rules next octets (rw 
 pub returns-then-kind : goal.returns-then-kind
 returns-then-kind c =
     let kind : c.number_of-kind.result ≡ kind_in c.args.octets.now =
-        c.number_of-kind.ensures in
+    c.number_of-kind.ensures in
     let read = c in
     let a = read.args in
     (rw (take-drop 2 a.octets.now) at c.read_text.ensures)
-    ∙ ap reading_outcome (sym (text-read a.keys a.next.0 a.octets.now (sym (kind ) ∙ c.if-kind.true)))
+    ∙ ap reading_outcome (sym (text-read a.keys a.next.0 a.octets.now (sym (kind) ∙ c.if-kind.true)))
 
 -- no text, where keys are not read
 pub returns-then-not-keys : goal.returns-then-not-keys
 returns-then-not-keys c =
     let kind : c.number_of-kind.result ≡ kind_in c.args.octets.now =
-        c.number_of-kind.ensures in
+    c.number_of-kind.ensures in
     let read = c in
     let a = read.args in
     ap record_outcome c.stopped.ensures
     ∙ ap reading_outcome
     (sym
     (other-read a.keys a.next.0 a.octets.now
-    (λ e. c.if-kind.false (kind  ∙ e))
+    (λ e. c.if-kind.false (kind ∙ e))
     (λ on e. true≢false (sym on ∙ c.if-not-keys.true))))
 
 -- a key
 pub returns-then-kind-2 : goal.returns-then-kind-2
 returns-then-kind-2 c =
     let kind : c.number_of-kind.result ≡ kind_in c.args.octets.now =
-        c.number_of-kind.ensures in
+    c.number_of-kind.ensures in
     let read = c in
     let a = read.args in
     (rw (take-drop 2 a.octets.now) at c.read_key.ensures)
     ∙ ap reading_outcome
     (sym
-    (key-read a.keys a.next.0 a.octets.now c.if-not-keys.false (sym (kind ) ∙ c.if-kind-2.true)))
+    (key-read a.keys a.next.0 a.octets.now c.if-not-keys.false (sym (kind) ∙ c.if-kind-2.true)))
 
 -- another kind
 pub returns : goal.returns
 returns c =
     let kind : c.number_of-kind.result ≡ kind_in c.args.octets.now =
-        c.number_of-kind.ensures in
+    c.number_of-kind.ensures in
     let read = c in
     let a = read.args in
     ap record_outcome c.stopped-2.ensures
     ∙ ap reading_outcome
     (sym
     (other-read a.keys a.next.0 a.octets.now
-    (λ e. c.if-kind.false (kind  ∙ e))
-    (λ on e. c.if-kind-2.false (kind  ∙ e))))
+    (λ e. c.if-kind.false (kind ∙ e))
+    (λ on e. c.if-kind-2.false (kind ∙ e))))

@@ -8,5 +8,5 @@ use Rattle.records.proofs.writing.put_following.Goals as goal
 pub put_body-requires : goal.put_body-requires
 put_body-requires c =
     let two : c.put_number-n.result ≡ 2 =
-        c.put_number-n.ensures.count ∙ length-little_endian 2 _ in
-    omega (arith, two )
+    c.put_number-n.ensures.count ∙ length-little_endian 2 _ in
+    omega (arith, two)

@@ -15,8 +15,8 @@ use Rattle.records.proofs.writing.put_record.Goals as goal
 pub put_following-requires : goal.put_following-requires
 put_following-requires c =
     let four : c.put_number-n.result ≡ 4 =
-        c.put_number-n.ensures.count ∙ length-little_endian 4 _ in
-    omega (arith, four )
+    c.put_number-n.ensures.count ∙ length-little_endian 4 _ in
+    omega (arith, four)
 
 -- both
 pub returns : goal.returns

@@ -17,7 +17,7 @@ use Rattle.records.proofs.writing.write_body.Goals as goal
 pub returns-then-records-at : goal.returns-then-records-at
 returns-then-records-at c =
     let long : 6 + (length c.args.fields.now + length c.args.octets.now) ≡ length ((framed c.args.kind (c.args.fields.now ++ c.args.octets.now))) =
-        let a = c.args in
+    let a = c.args in
     omega (
       arith,
       length-framed a.kind (a.fields.now ++ a.octets.now),
@@ -25,14 +25,14 @@ returns-then-records-at c =
     ) in
     let s = c in
     puts-no-room ((framed c.args.kind (c.args.fields.now ++ c.args.octets.now))) s.args.position.0 s.args.records.now _
-    (omega (arith, long , c.if-records-at.true))
-    (c.refused.ensures ∙ ap (λ (n : ℕ). Refused (refusal 8 0 n)) (long ))
+    (omega (arith, long, c.if-records-at.true))
+    (c.refused.ensures ∙ ap (λ (n : ℕ). Refused (refusal 8 0 n)) (long))
 
 -- too little is left
 pub returns-then-records-at-2 : goal.returns-then-records-at-2
 returns-then-records-at-2 c =
     let long : 6 + (length c.args.fields.now + length c.args.octets.now) ≡ length ((framed c.args.kind (c.args.fields.now ++ c.args.octets.now))) =
-        let a = c.args in
+    let a = c.args in
     omega (
       arith,
       length-framed a.kind (a.fields.now ++ a.octets.now),
@@ -40,14 +40,14 @@ returns-then-records-at-2 c =
     ) in
     let s = c in
     puts-no-room ((framed c.args.kind (c.args.fields.now ++ c.args.octets.now))) s.args.position.0 s.args.records.now _
-    (omega (arith, long , c.if-records-at-2.true))
-    (c.refused-then-records-at-2.ensures ∙ ap (λ (n : ℕ). Refused (refusal 8 0 n)) (long ))
+    (omega (arith, long, c.if-records-at-2.true))
+    (c.refused-then-records-at-2.ensures ∙ ap (λ (n : ℕ). Refused (refusal 8 0 n)) (long))
 
 -- there is room
 pub returns : goal.returns
 returns c =
     let long : 6 + (length c.args.fields.now + length c.args.octets.now) ≡ length ((framed c.args.kind (c.args.fields.now ++ c.args.octets.now))) =
-        let a = c.args in
+    let a = c.args in
     omega (
       arith,
       length-framed a.kind (a.fields.now ++ a.octets.now),
@@ -57,6 +57,6 @@ returns c =
     let passed = put in
     let s = passed in
     puts-room ((framed c.args.kind (c.args.fields.now ++ c.args.octets.now))) s.args.position.0 s.args.records.now _ _ _
-    (omega (arith, long , passed.if-records-at-2.false))
+    (omega (arith, long, passed.if-records-at-2.false))
     put.put_record.ensures
-    (ap (λ (n : ℕ). Upto (record { 0 = s.args.position.0 + n })) (long ))
+    (ap (λ (n : ℕ). Upto (record { 0 = s.args.position.0 + n })) (long))

@@ -53,12 +53,12 @@ returns-then-is_faulty_entry c =
 pub loop-i-preserved : goal.loop-i-preserved
 loop-i-preserved c =
     let passed : let l = c in faulty_entry ((let a = c.args in table a.entries.now a.pool.now)) l.loop-i.i ≡ false =
-        sym c.is_faulty_entry.ensures ∙ c.if-is_faulty_entry.false in
+    sym c.is_faulty_entry.ensures ∙ c.if-is_faulty_entry.false in
     let few : let l = c in count_at ((let a = c.args in table a.entries.now a.pool.now)).entries l.loop-i.i ≤ parts_most =
-        let l = c in sound-count ((let a = c.args in table a.entries.now a.pool.now)) l.loop-i.i (passed ) in
+    let l = c in sound-count ((let a = c.args in table a.entries.now a.pool.now)) l.loop-i.i (passed) in
     let l = c in
     let more = counts_below-more ((let a = c.args in table a.entries.now a.pool.now)).entries l.loop-i.i in
-    (search rules, below_more _ _ l.loop-i.invariant.1 (passed ), omega arith, omega (arith, few ))
+    (search rules, below_more _ _ l.loop-i.invariant.1 (passed), omega arith, omega (arith, few))
 
 -- the pool is longer than all counts
 pub returns-then-sum-pool : goal.returns-then-sum-pool

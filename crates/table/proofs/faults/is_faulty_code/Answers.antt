@@ -28,7 +28,7 @@ not_above-later es (suc i) ne = rw (sub-one (suc i))
 pub returns-then-i-eq0 : goal.returns-then-i-eq0
 returns-then-i-eq0 c =
     let decided : let a = c.args in c.is_syllable.result || not_above a.entries.now a.i ≡ faulty_code a.entries.now a.i =
-        let titled = c in
+    let titled = c in
     let coded = titled in
     let a = coded.args in
     let code : not (scalar (code_at a.entries.now a.i)) ≡ false = cc in
@@ -37,14 +37,14 @@ returns-then-i-eq0 c =
     c.is_syllable.ensures ∙ ap syllable coded.code_at-c.ensures in
     rw is (simp (code, title)) in
     let ordered : let a = c.args in not_above a.entries.now a.i ≡ faulty_code a.entries.now a.i =
-        rw c.if-is_syllable.false at (decided ) in
-    cc (ordered , not_above-first _ _ c.if-i-eq0.true)
+    rw c.if-is_syllable.false at (decided) in
+    cc (ordered, not_above-first _ _ c.if-i-eq0.true)
 
 -- any other entry
 pub returns : goal.returns
 returns c =
     let decided : let a = c.args in c.is_syllable.result || not_above a.entries.now a.i ≡ faulty_code a.entries.now a.i =
-        let titled = c in
+    let titled = c in
     let coded = titled in
     let a = coded.args in
     let code : not (scalar (code_at a.entries.now a.i)) ≡ false = cc in
@@ -53,7 +53,7 @@ returns c =
     c.is_syllable.ensures ∙ ap syllable coded.code_at-c.ensures in
     rw is (simp (code, title)) in
     let ordered : let a = c.args in not_above a.entries.now a.i ≡ faulty_code a.entries.now a.i =
-        rw c.if-is_syllable.false at (decided ) in
+    rw c.if-is_syllable.false at (decided) in
     let later = c in
     let a = later.args in
-    cc (ordered , not_above-later a.entries.now a.i later.if-i-eq0.false)
+    cc (ordered, not_above-later a.entries.now a.i later.if-i-eq0.false)

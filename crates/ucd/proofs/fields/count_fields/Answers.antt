@@ -14,8 +14,8 @@ loop-i-preserved c =
     let line = l.args.line.now in
     let h = c.loop-i-test.true in
     elim c.if-line-i-eq-SEMICOLON.branch [
-      then-line-i-eq-SEMICOLON w ↦ omega (arith, length-cut-here 0x3B line l.loop-i.i h w.if-line-i-eq-SEMICOLON.true, w.n-is)
-    | else-line-i-eq-SEMICOLON w ↦ omega (arith, length-cut-later 0x3B line l.loop-i.i h w.if-line-i-eq-SEMICOLON.false, w.n-is)
+      | then-line-i-eq-SEMICOLON w ↦ omega (arith, length-cut-here 0x3B line l.loop-i.i h w.if-line-i-eq-SEMICOLON.true, w.n-is)
+      | else-line-i-eq-SEMICOLON w ↦ omega (arith, length-cut-later 0x3B line l.loop-i.i h w.if-line-i-eq-SEMICOLON.false, w.n-is)
     ]
 
 -- the end

@@ -14,18 +14,18 @@ use Rattle.ucd.proofs.fields.find_field.Goals as goal
 pub slice_bounds-result-end : goal.slice_bounds-result-end
 slice_bounds-result-end c =
     let ends : c.piece_end.result ≡ piece_end 0x3B ((c.from_field-rest.result.now)) =
-        omega (arith, c.piece_end.ensures) in
+    omega (arith, c.piece_end.ensures) in
     let within : c.piece_end.result ≤ length ((c.from_field-rest.result.now)) =
-        omega (arith, ends , piece_end-most 0x3B ((c.from_field-rest.result.now))) in
-    sym (length-take-le c.piece_end.result ((c.from_field-rest.result.now)) (within ))
+    omega (arith, ends, piece_end-most 0x3B ((c.from_field-rest.result.now))) in
+    sym (length-take-le c.piece_end.result ((c.from_field-rest.result.now)) (within))
 
 pub returns : goal.returns
 returns c =
     let ends : c.piece_end.result ≡ piece_end 0x3B ((c.from_field-rest.result.now)) =
-        omega (arith, c.piece_end.ensures) in
+    omega (arith, c.piece_end.ensures) in
     let p = c in
     let a = p.args in
-    ap (λ (n : ℕ). take n ((c.from_field-rest.result.now))) (ends )
+    ap (λ (n : ℕ). take n ((c.from_field-rest.result.now))) (ends)
     ∙ sym (stands_here (stands-first 0x3B ((c.from_field-rest.result.now))))
     ∙ field-left a.line.now ((c.from_field-rest.result.now)) a.k 0 p.from_field-rest.ensures
     ∙ ap (λ (n : ℕ). field n a.line.now) (add-zero a.k)

@@ -26,28 +26,28 @@ returns-in_default c =
 pub returns-then-value-gt1114111 : goal.returns-then-value-gt1114111
 returns-then-value-gt1114111 c =
     let read : digit (get_or ((c.args.t.now)) c.loop-i.i 0) ≡ some c.in-Value.d =
-        sym c.read_digit-read.ensures ∙ ap digit_read c.in-Value.is in
+    sym c.read_digit-read.ensures ∙ ap digit_read c.in-Value.is in
     let more : let l = c in digits l.loop-i.value (drop l.loop-i.i ((c.args.t.now))) ≡ digits (l.loop-i.value * 16 + c.in-Value.d) (drop (l.loop-i.i + 1) ((c.args.t.now))) =
-        let l = c in
+    let l = c in
     digits_more l.loop-i.value c.in-Value.d ((c.args.t.now)) l.loop-i.i
-    c.loop-i-test.true (read ) in
+    c.loop-i-test.true (read) in
     let d = c in
     let l = d in
     let v = l.loop-i.value * 16 + d.in-Value.d in
-    sym (l.loop-i.invariant.2 ∙ ap bounded (more ) ∙ bounded-digits-above (drop (l.loop-i.i + 1) ((c.args.t.now))) v c.if-value-gt1114111.true)
+    sym (l.loop-i.invariant.2 ∙ ap bounded (more) ∙ bounded-digits-above (drop (l.loop-i.i + 1) ((c.args.t.now))) v c.if-value-gt1114111.true)
 
 -- one digit more
 pub loop-i-preserved : goal.loop-i-preserved
 loop-i-preserved c =
     let read : digit (get_or ((c.args.t.now)) c.loop-i.i 0) ≡ some c.in-Value.d =
-        sym c.read_digit-read.ensures ∙ ap digit_read c.in-Value.is in
+    sym c.read_digit-read.ensures ∙ ap digit_read c.in-Value.is in
     let more : let l = c in digits l.loop-i.value (drop l.loop-i.i ((c.args.t.now))) ≡ digits (l.loop-i.value * 16 + c.in-Value.d) (drop (l.loop-i.i + 1) ((c.args.t.now))) =
-        let l = c in
+    let l = c in
     digits_more l.loop-i.value c.in-Value.d ((c.args.t.now)) l.loop-i.i
-    c.loop-i-test.true (read ) in
+    c.loop-i-test.true (read) in
     let d = c in
     let l = d in
-    (omega arith, c.if-value-gt1114111.false, l.loop-i.invariant.2 ∙ ap bounded (more ))
+    (omega arith, c.if-value-gt1114111.false, l.loop-i.invariant.2 ∙ ap bounded (more))
 
 -- the end
 pub returns : goal.returns

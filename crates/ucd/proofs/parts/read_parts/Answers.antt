@@ -21,18 +21,18 @@ returns-then-t-eq0 c = record { read = decomposition-empty c.args.t.now c.if-t-e
 pub slice_bounds-is_tag-end : goal.slice_bounds-is_tag-end
 slice_bounds-is_tag-end c =
     let ends : c.piece_end-n.result ≡ piece_end 0x20 ((c.args.t.now)) =
-        omega (arith, c.piece_end-n.ensures) in
+    omega (arith, c.piece_end-n.ensures) in
     let within : c.piece_end-n.result ≤ length ((c.args.t.now)) =
-        omega (arith, ends , piece_end-most 0x20 ((c.args.t.now))) in
-    sym (length-take-le c.piece_end-n.result ((c.args.t.now)) (within ))
+    omega (arith, ends, piece_end-most 0x20 ((c.args.t.now))) in
+    sym (length-take-le c.piece_end-n.result ((c.args.t.now)) (within))
 
 -- a tag alone
 pub returns-then-n-t : goal.returns-then-n-t
 returns-then-n-t c =
     let ends : c.piece_end-n.result ≡ piece_end 0x20 ((c.args.t.now)) =
-        omega (arith, c.piece_end-n.ensures) in
+    omega (arith, c.piece_end-n.ensures) in
     let tag_of : c.is_tag.result ≡ tag (take (piece_end 0x20 ((c.args.t.now))) ((c.args.t.now))) =
-        rw (ends ) at c.is_tag.ensures in
+    rw (ends) at c.is_tag.ensures in
     let q = c in
     let p = q in
     record {
@@ -40,61 +40,61 @@ returns-then-n-t c =
           decomposition-alone
           ((c.args.t.now))
           p.if-t-eq0.false
-          (sym (tag_of ) ∙ c.if-is_tag.true)
-          (sym (ends ) ∙ c.if-n-t.true);
+          (sym (tag_of) ∙ c.if-is_tag.true)
+          (sym (ends) ∙ c.if-n-t.true);
       within = search rules;
     }
 
 pub overflow_add-n : goal.overflow_add-n
 overflow_add-n c =
     let ends : c.piece_end-n.result ≡ piece_end 0x20 ((c.args.t.now)) =
-        omega (arith, c.piece_end-n.ensures) in
+    omega (arith, c.piece_end-n.ensures) in
     let within : c.piece_end-n.result ≤ length ((c.args.t.now)) =
-        omega (arith, ends , piece_end-most 0x20 ((c.args.t.now))) in
+    omega (arith, ends, piece_end-most 0x20 ((c.args.t.now))) in
     let more : c.piece_end-n.result < length ((c.args.t.now)) =
-        omega (arith, c.if-n-t.false, within ) in
-    omega (arith, more , c.well_formed.0)
+    omega (arith, c.if-n-t.false, within) in
+    omega (arith, more, c.well_formed.0)
 
 pub slice_bounds-read_listed-count : goal.slice_bounds-read_listed-count
 slice_bounds-read_listed-count c =
     let ends : c.piece_end-n.result ≡ piece_end 0x20 ((c.args.t.now)) =
-        omega (arith, c.piece_end-n.ensures) in
+    omega (arith, c.piece_end-n.ensures) in
     let within : c.piece_end-n.result ≤ length ((c.args.t.now)) =
-        omega (arith, ends , piece_end-most 0x20 ((c.args.t.now))) in
+    omega (arith, ends, piece_end-most 0x20 ((c.args.t.now))) in
     let more : c.piece_end-n.result < length ((c.args.t.now)) =
-        omega (arith, c.if-n-t.false, within ) in
-    omega (arith, more )
+    omega (arith, c.if-n-t.false, within) in
+    omega (arith, more)
 
 pub slice_bounds-read_listed-start : goal.slice_bounds-read_listed-start
 slice_bounds-read_listed-start c =
     let ends : c.piece_end-n.result ≡ piece_end 0x20 ((c.args.t.now)) =
-        omega (arith, c.piece_end-n.ensures) in
+    omega (arith, c.piece_end-n.ensures) in
     let within : c.piece_end-n.result ≤ length ((c.args.t.now)) =
-        omega (arith, ends , piece_end-most 0x20 ((c.args.t.now))) in
+    omega (arith, ends, piece_end-most 0x20 ((c.args.t.now))) in
     let more : c.piece_end-n.result < length ((c.args.t.now)) =
-        omega (arith, c.if-n-t.false, within ) in
-    omega (arith, more )
+    omega (arith, c.if-n-t.false, within) in
+    omega (arith, more)
 
 -- a tag and more
 pub returns-then-is_tag : goal.returns-then-is_tag
 returns-then-is_tag c =
     let ends : c.piece_end-n.result ≡ piece_end 0x20 ((c.args.t.now)) =
-        omega (arith, c.piece_end-n.ensures) in
+    omega (arith, c.piece_end-n.ensures) in
     let within : c.piece_end-n.result ≤ length ((c.args.t.now)) =
-        omega (arith, ends , piece_end-most 0x20 ((c.args.t.now))) in
+    omega (arith, ends, piece_end-most 0x20 ((c.args.t.now))) in
     let more : c.piece_end-n.result < length ((c.args.t.now)) =
-        omega (arith, c.if-n-t.false, within ) in
+    omega (arith, c.if-n-t.false, within) in
     let tag_of : c.is_tag.result ≡ tag (take (piece_end 0x20 ((c.args.t.now))) ((c.args.t.now))) =
-        rw (ends ) at c.is_tag.ensures in
+    rw (ends) at c.is_tag.ensures in
     let r = c in
     let e = r in
     let q = e in
     let p = q in
     let t = (c.args.t.now) in
     let part : take (length t - (p.piece_end-n.result + 1)) (drop (p.piece_end-n.result + 1) t) ≡ drop (piece_end 0x20 t + 1) t =
-    take-drop (p.piece_end-n.result + 1) t ∙ ap (λ (n : ℕ). drop (n + 1) t) (ends ) in
+    take-drop (p.piece_end-n.result + 1) t ∙ ap (λ (n : ℕ). drop (n + 1) t) (ends) in
     rw (
-      decomposition-tagged t p.if-t-eq0.false (sym (tag_of ) ∙ e.if-is_tag.true) (omega (arith, ends , more )),
+      decomposition-tagged t p.if-t-eq0.false (sym (tag_of) ∙ e.if-is_tag.true) (omega (arith, ends, more)),
       ← part,
     )
     r.read_listed.ensures
@@ -103,11 +103,11 @@ returns-then-is_tag c =
 pub returns : goal.returns
 returns c =
     let ends : c.piece_end-n.result ≡ piece_end 0x20 ((c.args.t.now)) =
-        omega (arith, c.piece_end-n.ensures) in
+    omega (arith, c.piece_end-n.ensures) in
     let tag_of : c.is_tag.result ≡ tag (take (piece_end 0x20 ((c.args.t.now))) ((c.args.t.now))) =
-        rw (ends ) at c.is_tag.ensures in
+    rw (ends) at c.is_tag.ensures in
     let r = c in
     let e = r in
     let q = e in
     let p = q in
-    rw (decomposition-plain ((c.args.t.now)) p.if-t-eq0.false (sym (tag_of ) ∙ e.if-is_tag.false)) r.read_listed-2.ensures
+    rw (decomposition-plain ((c.args.t.now)) p.if-t-eq0.false (sym (tag_of) ∙ e.if-is_tag.false)) r.read_listed-2.ensures

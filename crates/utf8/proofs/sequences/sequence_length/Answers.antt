@@ -22,46 +22,46 @@ returns-then-is_ascii c =
 pub returns-then-ones-lt2 : goal.returns-then-ones-lt2
 returns-then-ones-lt2 c =
     let counted : count_leading_zeros 8 (255 - c.args.first) ≡ leading_ones 8 c.args.first =
-        leading_zeros-inverted c.args.first c.well_formed.0.1 in
+    leading_zeros-inverted c.args.first c.well_formed.0.1 in
     let s = c in
     let ones = leading_ones 8 s.args.first in
     let not_None = eqb-false ones 0 (sym c.is_ascii.ensures ∙ c.if-is_ascii.false) in
-    sym (announced-one-or-many s.args.first (inl (omega (arith, counted , not_None))))
+    sym (announced-one-or-many s.args.first (inl (omega (arith, counted, not_None))))
 
 -- two
 pub returns-then-ones-lt3 : goal.returns-then-ones-lt3
 returns-then-ones-lt3 c =
     let counted : count_leading_zeros 8 (255 - c.args.first) ≡ leading_ones 8 c.args.first =
-        leading_zeros-inverted c.args.first c.well_formed.0.1 in
+    leading_zeros-inverted c.args.first c.well_formed.0.1 in
     let that_many : (n : ℕ) → leading_ones 8 c.args.first ≡ n → 2 ≤ n → n ≤ 4 → some n ≡ announced c.args.first =
-        λ n e l m. ap some (sym e) ∙ sym (announced-ones c.args.first (omega arith) (omega arith)) in
+    λ n e l m. ap some (sym e) ∙ sym (announced-ones c.args.first (omega arith) (omega arith)) in
     let s = c in
-    that_many  2 (omega (arith, counted , c.if-ones-lt2.false, c.if-ones-lt3.true)) (omega arith) (omega arith)
+    that_many 2 (omega (arith, counted, c.if-ones-lt2.false, c.if-ones-lt3.true)) (omega arith) (omega arith)
 
 -- three
 pub returns-then-ones-lt4 : goal.returns-then-ones-lt4
 returns-then-ones-lt4 c =
     let counted : count_leading_zeros 8 (255 - c.args.first) ≡ leading_ones 8 c.args.first =
-        leading_zeros-inverted c.args.first c.well_formed.0.1 in
+    leading_zeros-inverted c.args.first c.well_formed.0.1 in
     let that_many : (n : ℕ) → leading_ones 8 c.args.first ≡ n → 2 ≤ n → n ≤ 4 → some n ≡ announced c.args.first =
-        λ n e l m. ap some (sym e) ∙ sym (announced-ones c.args.first (omega arith) (omega arith)) in
+    λ n e l m. ap some (sym e) ∙ sym (announced-ones c.args.first (omega arith) (omega arith)) in
     let s = c in
-    that_many  3 (omega (arith, counted , c.if-ones-lt3.false, c.if-ones-lt4.true)) (omega arith) (omega arith)
+    that_many 3 (omega (arith, counted, c.if-ones-lt3.false, c.if-ones-lt4.true)) (omega arith) (omega arith)
 
 -- four
 pub returns-then-ones-lt5 : goal.returns-then-ones-lt5
 returns-then-ones-lt5 c =
     let counted : count_leading_zeros 8 (255 - c.args.first) ≡ leading_ones 8 c.args.first =
-        leading_zeros-inverted c.args.first c.well_formed.0.1 in
+    leading_zeros-inverted c.args.first c.well_formed.0.1 in
     let that_many : (n : ℕ) → leading_ones 8 c.args.first ≡ n → 2 ≤ n → n ≤ 4 → some n ≡ announced c.args.first =
-        λ n e l m. ap some (sym e) ∙ sym (announced-ones c.args.first (omega arith) (omega arith)) in
+    λ n e l m. ap some (sym e) ∙ sym (announced-ones c.args.first (omega arith) (omega arith)) in
     let s = c in
-    that_many  4 (omega (arith, counted , c.if-ones-lt4.false, c.if-ones-lt5.true)) (omega arith) (omega arith)
+    that_many 4 (omega (arith, counted, c.if-ones-lt4.false, c.if-ones-lt5.true)) (omega arith) (omega arith)
 
 -- more
 pub returns : goal.returns
 returns c =
     let counted : count_leading_zeros 8 (255 - c.args.first) ≡ leading_ones 8 c.args.first =
-        leading_zeros-inverted c.args.first c.well_formed.0.1 in
+    leading_zeros-inverted c.args.first c.well_formed.0.1 in
     let s = c in
-    sym (announced-one-or-many s.args.first (inr (omega (arith, counted , c.if-ones-lt5.false))))
+    sym (announced-one-or-many s.args.first (inr (omega (arith, counted, c.if-ones-lt5.false))))
