@@ -1,5 +1,5 @@
 -- `pairs::reader::find_octet`: what was passed lies between the two places and holds none of the octet.
-use Rattle.std.proofs.Common.{◌-◌, ◌≡◌, ◌≢◌, ℕ, ◌≤◌, ◌<◌, slice_index}
+use Rattle.std.proofs.Common.{◌-◌, ◌≢◌, ℕ, ◌≤◌, ◌<◌, slice_index}
 use Rattle.pairs.proofs.reader.find_octet.Given as goal
 
 abbrev pub invariant-loop-i : goal.invariant-loop-i
