@@ -5,12 +5,12 @@
 
 #![tactic(auto)]
 
-mod keys;
 mod print;
 mod shapes;
+mod shown;
 mod tables;
 
 fn main(rt: HostRuntime) {
     tables::run(&rt);
-    keys::run(&rt);
+    shown::run(&rt);
 }
