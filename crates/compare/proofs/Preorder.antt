@@ -22,7 +22,7 @@ use Rattle.pages.specs.Pages.{Pages}
 use Rattle.prepare.specs.Calls.{Lent, call, Called}
 use Rattle.prepare.proofs.CallRefusals.{unrefused-table}
 use Rattle.compare.specs.Compare.{order_outcome, equality_outcome, order_values, equality_values, ordered_by, equality_by}
-use Rattle.compare.specs.Compare.{OrderSays, EqualSays, flipped}
+use Rattle.compare.specs.Compare.{order_of_keys, equality_of_keys, OrderSays, EqualSays, flipped}
 use Rattle.compare.specs.declared.Equality.{Equality}
 use Rattle.compare.specs.declared.Equality.TheVariants.{Match}
 use Rattle.compare.specs.declared.Ordered.{Ordered}
@@ -138,12 +138,12 @@ module _ {t : Table} {g : Pages} {l m : Lent} {after : List (List ℕ)} where
   pub answers-valid : Called order_outcome order_values (call (some UnicodeCasemap) t g (l ∷ m ∷ [])) Equal after
       → there (characters l.text) ≡ there (characters m.text)
   answers-valid h =
-      let accepted = unrefused-table (call (some UnicodeCasemap) t g (l ∷ m ∷ [])) (given-unrefused h tt) in
+      let accepted = unrefused-table (call (some UnicodeCasemap) t g (l ∷ m ∷ [])) (given-unrefused order_of_keys h tt) in
       same-validity t l.text m.text accepted ((answers-tie (says h tt)).0 refl)
 
   -- nor does `equal` say Match
   pub matches-valid : Called equality_outcome equality_values (call (some UnicodeCasemap) t g (l ∷ m ∷ [])) Match after
       → there (characters l.text) ≡ there (characters m.text)
   matches-valid h =
-      let accepted = unrefused-table (call (some UnicodeCasemap) t g (l ∷ m ∷ [])) (given-unrefused h tt) in
+      let accepted = unrefused-table (call (some UnicodeCasemap) t g (l ∷ m ∷ [])) (given-unrefused equality_of_keys h tt) in
       same-validity t l.text m.text accepted ((matches-tie (says h tt)).0 refl)

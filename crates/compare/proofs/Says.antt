@@ -26,12 +26,16 @@ values_given : (o : Outcome) → Given o → (vs : List ℕ) × (o ≡ gives vs)
 values_given (refused r) g = absurd g
 values_given (gives vs) g = (vs, refl)
 
-module _ {R : Type 0} {outcome : R → Outcome} {number : List ℕ → List ℕ → ℕ} {r : R} where
-  -- what is not a refusal was refused by nothing
-  pub given-unrefused : {c : Call} {after : List (List ℕ)} → Called outcome (compared_values number) c r after → Given (outcome r)
-      → call_refusal c ≡ none
-  given-unrefused h given = let v = values_given (outcome r) given in (answered-gives h v.0 v.1).0
+-- what is not a refusal was refused by nothing
+pub given-unrefused : {R : Type 0} {outcome : R → Outcome} {r : R} (number : List ℕ → List ℕ → ℕ) {c : Call}
+    {after : List (List ℕ)}
+    → Called outcome (compared_values number) c r after
+    → Given (outcome r)
+    → call_refusal c ≡ none
+given-unrefused {outcome = outcome} {r = r} number h given =
+    let v = values_given (outcome r) given in (answered-gives h v.0 v.1).0
 
+module _ {R : Type 0} {outcome : R → Outcome} {number : List ℕ → List ℕ → ℕ} {r : R} where
   -- from the contract
   pub says : {k : Collation} {t : Table} {g : Pages} {l m : Lent} {after : List (List ℕ)}
       → Called outcome (compared_values number) (call (some k) t g (l ∷ m ∷ [])) r after
