@@ -1,5 +1,5 @@
 // The calls of the C interface on many texts and on the keys of two lists (include/mundeziwa.h): each function calls one of the
-// library's and stores the answer as a row of numbers. mz_many_c exports them.
+// library's and stores the answer as a row of numbers.
 //
 // Both take any arguments at all. That pointers and lengths are what the header says of them is the C caller's part: no proof
 // sees it.
@@ -18,7 +18,8 @@ use many::Batch;
 use matching::Matched;
 
 // Prepares many texts.
-pub fn mz_prepare_many(
+#[unsafe(no_mangle)]
+pub extern "C" fn mz_prepare_many(
     collation: u32,
     octets: &[u8],
     ends: &[usize],
@@ -44,7 +45,8 @@ pub fn mz_prepare_many(
 }
 
 // Finds which keys of two lists are equal.
-pub fn mz_match_keys(
+#[unsafe(no_mangle)]
+pub extern "C" fn mz_match_keys(
     store: &[u8],
     ends: &[usize],
     first_names: usize,
