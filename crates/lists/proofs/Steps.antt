@@ -6,7 +6,6 @@ use native.Mathlib.Omega.{arith}
 use mathlib.Core.Option.{Option, none, some}
 use mathlib.Core.List.{List, [], ◌∷◌}
 use lib.ListN.{length}
-use Rattle.terms.specs.Refusals.{refused}
 use Rattle.terms.specs.declared.Refusal.{Refusal}
 use Rattle.records.specs.Items.{list_rules, Item, of_text, of_key}
 use Rattle.records.specs.Reading.{Reading, end, stopped, item, read_at}

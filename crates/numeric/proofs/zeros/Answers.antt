@@ -1,7 +1,6 @@
 -- `numeric::zeros` meets its contract. The loop's invariant: the leading zeros are those passed and those that follow. The
 -- measure is what is left of the text.
 -- Assumes nothing.
-use Prim.Native.Nat.{◌-◌}
 use native.Mathlib.Omega.{arith}
 use borrow.Author.Rules.{rules}
 use Rattle.numeric.proofs.Runs.{zeros-end, zeros-other, zeros-more}

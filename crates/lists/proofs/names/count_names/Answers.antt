@@ -1,7 +1,6 @@
 -- `lists::names::count_names` meets its contract. The invariant: the names before the position are counted, and the list
 -- has the refusal that it has from there on; what falls is what is left of the list.
 -- Assumes nothing.
-use Prim.Native.Nat.{◌-◌}
 use native.Mathlib.Omega.{arith}
 use Rattle.lists.specs.Promises.{NameRead}
 use Rattle.lists.proofs.Answers.{name-read, end_read, stopped-read, no_key, counting-onward}

@@ -2,7 +2,6 @@
 -- on, is that of all; what falls is what is left of the list.
 -- Assumes nothing.
 use mathlib.Core.Path.{◌≡◌}
-use Prim.Native.Nat.{◌-◌}
 use native.Mathlib.Omega.{arith}
 use lib.ListN.{length}
 use Rattle.table.specs.Table.{table, mapping_of}

@@ -1,7 +1,6 @@
 -- `records::numbers::put_number` meets its contract. The loop's invariant: the octets so far are written, and the octets that are
 -- left are those of the number that is left. The measure is how many they are.
 -- Assumes nothing.
-use Prim.Native.Nat.{◌-◌}
 use native.Mathlib.Omega.{arith}
 use Rattle.octets.proofs.Puts.{puts-next, puts-all}
 use Rattle.records.specs.Numbers.{little_endian}
