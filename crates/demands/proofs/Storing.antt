@@ -43,10 +43,10 @@ agree n AsciiCasemap t text ok = eq-eqb (length (map upper text)) (length text) 
 agree n UnicodeCasemap t text ok = agree-unicode n t text (characters text) (key-most t text ok)
 
 -- so it fits
-pub key_fits : (n : ℕ) (k : Collation) (t : Table) (text : List ℕ) → collation_of n ≡ some k → table_under k t ≡ none
+pub prepared-fits : (n : ℕ) (k : Collation) (t : Table) (text : List ℕ) → collation_of n ≡ some k → table_under k t ≡ none
     → length text ≤ 4096
     → key_fits rules (fields_for n (truth (prepared k (mapping_of t) text).valid) text) (length (prepared k (mapping_of t) text).key) ≡ true
-key_fits n k t text named ok short = rw (le-leb (length text) 4096 short, named) (agree n k t text ok)
+prepared-fits n k t text named ok short = rw (le-leb (length text) 4096 short, named) (agree n k t text ok)
 
 -- and so does that of a text whose preparation was not refused
 pub kept-fits : (n : ℕ) (k : Collation) (t : Table) (pg : Pages) (l : Lent) (flag : ℕ) (key : List ℕ)
@@ -60,7 +60,7 @@ kept-fits n k t pg l flag key named ok e f unfit =
     let texts = (or_else-neither (texts_refusal (some k) (lengths c)) _ (unrefused c ok).0).0 in
     let long = (or_else-neither (length_check 1 (length l.text)) none (or_else-neither (collation_check (some k)) _ texts).1).0 in
     let short : length l.text ≤ 4096 = ltb-false 4096 (length l.text) (when-none _ _ long) in
-    let fit = key_fits n k t l.text named (unrefused-table c ok) short in
+    let fit = prepared-fits n k t l.text named (unrefused-table c ok) short in
     let fields = fields_for n flag l.text in
     let fits : key_fits rules fields (length key) ≡ true =
     subst₂ (λ (v : ℕ) (xs : List ℕ). key_fits rules (fields_for n v l.text) (length xs) ≡ true) e (sym f) fit
