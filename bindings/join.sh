@@ -1,7 +1,8 @@
 #!/usr/bin/env bash
-# One library out of the archives of the named crates: build/lib/libmundeziwa.a, and libmundeziwa.so.N with its link name
-# libmundeziwa.so, N being MZ_INTERFACE of the header. Each crate's archive, which `rt lib` leaves in its folder out/, has
-# one object, named as the crate, in which nothing but the exported calls can be seen from outside.
+# One library out of the archives of the named crates: build/lib/libmundeziwa.a, and libmundeziwa.so.N, N being MZ_INTERFACE of the
+# header, with libmundeziwa.so, the name to link by: a copy, since `rt ci` takes no link below the repository. Each crate's archive,
+# which `rt lib` leaves in its folder out/, has one object, named as the crate, in which nothing but the exported calls can be seen
+# from outside.
 set -euo pipefail
 cd "$(dirname "$0")/.."
 
@@ -19,5 +20,5 @@ done
 rm -f "$OUT"/libmundeziwa.*
 ar rcs "$OUT/libmundeziwa.a" "${objects[@]}"
 cc -shared -o "$OUT/libmundeziwa.so.$interface" "-Wl,-soname,libmundeziwa.so.$interface" "${objects[@]}"
-ln -s "libmundeziwa.so.$interface" "$OUT/libmundeziwa.so"
+cp "$OUT/libmundeziwa.so.$interface" "$OUT/libmundeziwa.so"
 rm "${objects[@]}"
