@@ -1,7 +1,7 @@
 #!/usr/bin/env python3
 """Respells the repository's own definitions and lemmas as today's Rattle spells names: words in snake case.
 
-usage: python3 tools/respell.py    at the top of the repository, once, after /opt/rattle/port/port.py
+usage: python3 tools/respell.py    at the top of the repository, once, after the kit's port.py
 
 A name has parts that a dash joins. Each part that begins small and has a capital (`entryOf`, of `entryOf-none`) and that stands
 in a name which a file of specs/ or proofs/ declares is turned everywhere in .antt and .rt files of crates/, and in docs/. OTHER

@@ -1,5 +1,5 @@
 // The calls of the C interface on many texts and on the keys of two lists (include/mundeziwa.h): each function calls one of the
-// library's and stores the answer as a row of numbers.
+// library's and stores the answer as a row of numbers. mz_many_c exports them.
 //
 // Both take any arguments at all. That pointers and lengths are what the header says of them is the C caller's part: no proof
 // sees it.
@@ -18,8 +18,7 @@ use many::Batch;
 use matching::Matched;
 
 // Prepares many texts.
-#[unsafe(no_mangle)]
-pub extern "C" fn mz_prepare_many(
+pub fn mz_prepare_many(
     collation: u32,
     octets: &[u8],
     ends: &[usize],
@@ -45,8 +44,7 @@ pub extern "C" fn mz_prepare_many(
 }
 
 // Finds which keys of two lists are equal.
-#[unsafe(no_mangle)]
-pub extern "C" fn mz_match_keys(
+pub fn mz_match_keys(
     store: &[u8],
     ends: &[usize],
     first_names: usize,
