@@ -1,1 +1,3 @@
-mod Taken
+pub mod Going
+pub mod Lines
+pub mod Taken
