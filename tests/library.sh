@@ -37,14 +37,29 @@ interface=$(sed -n 's/^#define MZ_INTERFACE //p' include/mundeziwa.h)
 readelf -d "$LIB/libmundeziwa.so" | grep -qF "soname: [libmundeziwa.so.$interface]" || fail 'the shared object has another SONAME'
 readelf -d build/c_calls_shared | grep -qF "[libmundeziwa.so.$interface]" || fail 'a program asks for another shared object'
 
-# the header's collations, limits, kinds of record and refusals are those of crates/terms, and the width of an entry that of
-# crates/table (9 is the program's alone; the interface's number is compared above)
+# the header's collations and limits are the constants of crates/terms, the width of an entry that of crates/table, the kinds of
+# record those of crates/records and the refusals the reasons of crates/terms (the reason 9 is the program's alone; the
+# interface's number is compared above)
 header=$(awk '$1 == "#define" && NF > 2 { sub("MZ_", "", $2); print $2, $3 }' include/mundeziwa.h | sort)
-terms=$(awk '$1 == "pub" && $2 == "const" { print $3, $6 }' crates/terms/src/lib.rt crates/table/src/layout.rt | tr -d ':;' \
-    | sed 's/^EXPANSION_MOST /KEY_PER_OCTET_MOST /;s/^PAGES_MOST /PAGES /' | grep -v '^REFUSED_NO_TAB ' | sort)
-same 'the header and crates/terms have different numbers' '' \
-    "$(comm -23 <(grep -v '^INTERFACE ' <<< "$header") <(echo "$terms"))"
-same 'the header and crates/terms have different refusals' "$(grep '^REFUSED_' <<< "$header")" "$(grep '^REFUSED_' <<< "$terms")"
+constants=$(awk '$1 == "pub" && $2 == "const" { print $3, $6 }' crates/terms/src/lib.rt crates/table/src/layout.rt | tr -d ':;' \
+    | sed 's/^EXPANSION_MOST /KEY_PER_OCTET_MOST /;s/^PAGES_MOST /PAGES /')
+kinds=$(sed -nE 's/^ +Kind::(\w+) => ([0-9]+),$/KIND_\U\1 \2/p' crates/records/src/lib.rt)
+# Where several calls have one reason, the header has a name for each of them.
+refusals=$(sed -nE 's/^ +Reason::(\w+) => ([0-9]+),$/\1 \2/p' crates/terms/src/lib.rt | grep -v '^NoTab ' \
+    | sed -E 's/([a-z])([A-Z0-9])/\1_\2/g' | tr '[:lower:]' '[:upper:]' \
+    | awk '
+        BEGIN {
+            names["ROOM"] = "KEY_ROOM RECORD_ROOM LIST_ROOM MANY_ROOM"
+            names["COUNT"] = "NAME_COUNT END_COUNT"
+            names["TABLE_ROOM"] = "NO_ROOM"
+        }
+        {
+            count = split($1 in names ? names[$1] : $1, name, " ")
+            for (i = 1; i <= count; i++) print "REFUSED_" name[i], $2
+        }' | sort)
+same 'the header and the crates have different refusals' "$(grep '^REFUSED_' <<< "$header")" "$refusals"
+same 'the header and the crates have different numbers' '' \
+    "$(comm -23 <(grep -v '^INTERFACE ' <<< "$header") <(sort <<< "$constants"$'\n'"$kinds"$'\n'"$refusals"))"
 
 CARGO_TARGET_DIR=build/rust cargo test --quiet --offline --manifest-path bindings/rust/Cargo.toml
 bash tests/readme.sh

@@ -6,16 +6,13 @@ ghost use Rattle.std.specs.Prelude.{◌≡◌};
 ghost use Rattle.occurrence.specs.Occurrence.{occurrence};
 ghost use Rattle.bench_find.specs.Promises.{place_or_zero};
 
-use occurrence::Occurrence;
-
 // One more than the lowest place at which the needle stands, or 0.
 #[unsafe(no_mangle)]
 pub extern "C" fn bench_find(needle: &[u8], hay: &[u8]) -> usize
     ensures { result ≡ place_or_zero (occurrence needle.now hay.now) }
 {
-    let found = occurrence::find(needle, hay);
-    match found {
-        Occurrence::At(place) => place.0 + 1,
-        Occurrence::Nowhere => 0,
+    match occurrence::find(needle, hay) {
+        Some(place) => place.0 + 1,
+        None => 0,
     }
 }

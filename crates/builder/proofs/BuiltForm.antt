@@ -5,7 +5,7 @@ use mathlib.Core.Path.{◌≡◌, refl, ap, subst⁻¹}
 use Prim.Native.Nat.{ℕ}
 use native.Mathlib.Omega.{arith}
 use mathlib.Core.Bool.{Bool, true, false, cond, not}
-use mathlib.Core.Option.{Option, none, some}
+use Rattle.std.specs.Prelude.{Option, None, Some}
 use mathlib.Core.List.{List, [], ◌∷◌}
 use lib.ListN.{length}
 use borrow.Author.Tests.{le-ltb}
@@ -31,7 +31,7 @@ pub entry_count-cut : {b : Built} → Grown b → entry_count (cut b).entries �
 entry_count-cut {b} g = entry_count-first_entries b.state.entries_used b.table.entries g.fits.entries-held
 
 -- a grown table has the form
-pub grown-form : {b : Built} → Grown b → form_refusal (cut b) ≡ none
+pub grown-form : {b : Built} → Grown b → form_refusal (cut b) ≡ None
 grown-form {b} g =
     let used = b.state.entries_used in
     let many = entry_count-cut g in
@@ -66,8 +66,8 @@ pub grown-add_line : (b : Built) (line : List ℕ) → Grown b → Grown (add_li
 grown-add_line b line g = go (accepted b line) refl
   where
     go : (o : Option Properties) → accepted b line ≡ o → Grown (add_line b line)
-    go none e = subst⁻¹ Grown (add_line-none b line e) g
-    go (some p) e = subst⁻¹ Grown (add_line-accepted b line p e) (grown-added b p g (passes b line p e))
+    go None e = subst⁻¹ Grown (add_line-none b line e) g
+    go (Some p) e = subst⁻¹ Grown (add_line-accepted b line p e) (grown-added b p g (passes b line p e))
 
 -- what is used has room after it, whatever the line
 pub fits-add_line : (b : Built) (line : List ℕ) → UsedFits b → UsedFits (add_line b line)
@@ -78,8 +78,8 @@ fits-add_line b line fits = go (accepted b line) refl
     stored p ok false e = fits-appended b p (ok.room e)
 
     go : (o : Option Properties) → accepted b line ≡ o → UsedFits (add_line b line)
-    go none e = rw (add_line-none b line e) fits
-    go (some p) e = rw (add_line-accepted b line p e) (stored p (passes b line p e) (says_nothing p) refl)
+    go None e = rw (add_line-none b line e) fits
+    go (Some p) e = rw (add_line-accepted b line p e) (stored p (passes b line p e) (says_nothing p) refl)
 
 -- whatever the lines
 pub grown-add_lines : (b : Built) (lines : List (List ℕ)) → Grown b → Grown (add_lines b lines)
@@ -88,5 +88,5 @@ grown-add_lines b [] g = g
 grown-add_lines b (line ∷ lines) g = grown-add_lines (add_line b line) lines (grown-add_line b line g)
 
 -- a table built from the fresh state, cut to what is used, has the form
-pub built-form : (t : Table) (lines : List (List ℕ)) → form_refusal (cut (add_lines (start_of t) lines)) ≡ none
+pub built-form : (t : Table) (lines : List (List ℕ)) → form_refusal (cut (add_lines (start_of t) lines)) ≡ None
 built-form t lines = grown-form (grown-add_lines (start_of t) lines (grown-start t))

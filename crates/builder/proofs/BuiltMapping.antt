@@ -5,7 +5,7 @@ use mathlib.Core.Path.{◌≡◌, refl, sym, ◌∙◌, ap}
 use Prim.Native.Nat.{ℕ, ◌+◌, ◌<◌}
 use native.Mathlib.Omega.{arith}
 use mathlib.Core.Bool.{Bool, true, false, cond}
-use mathlib.Core.Option.{Option, none, some}
+use Rattle.std.specs.Prelude.{Option, None, Some}
 use mathlib.Core.List.{List, [], ◌∷◌, ◌++◌}
 use lib.Dec.{eqb}
 use borrow.Author.Tests.{eqb-true, eq-eqb, ne_eqb}
@@ -32,7 +32,7 @@ next-added b p = go (says_nothing p)
     go true = refl
     go false = refl
 
-module _ (b : Built) (line : List ℕ) (p : Properties) (taken : accepted b line ≡ some p) where
+module _ (b : Built) (line : List ℕ) (p : Properties) (taken : accepted b line ≡ Some p) where
   -- the next code point after an accepted line
   next-accepted : (add_line b line).state.next ≡ p.code + 1
   next-accepted = ap (λ (x : Built). x.state.next) (add_line-accepted b line p taken) ∙ next-added b p
@@ -66,8 +66,8 @@ accepted_of-below b (line ∷ lines) d c h = go (accepted b line) refl (accepted
     go : (o : Option Properties) → accepted b line ≡ o
         → (c < (add_line b line).state.next → properties_else d (accepted_of (add_line b line) lines) c ≡ d)
         → properties_else d (and_given o (accepted_of (add_line b line) lines)) c ≡ d
-    go none e rest = rest (rw (add_line-none b line e) h)
-    go (some p) e rest =
+    go None e rest = rest (rw (add_line-none b line e) h)
+    go (Some p) e rest =
         let above = (passes b line p e).next in
         rw (ne_eqb p.code c (λ s. omega arith)) (rest (omega (arith, next-accepted b line p e)))
 
@@ -82,7 +82,7 @@ built_properties-lines b (line ∷ lines) c g =
     rest : List Properties
     rest = accepted_of (add_line b line) lines
 
-    one : (p : Properties) → accepted b line ≡ some p → (t : Bool) → eqb p.code c ≡ t
+    one : (p : Properties) → accepted b line ≡ Some p → (t : Bool) → eqb p.code c ≡ t
         → properties_else (built_properties (add_line b line) c) rest c ≡ cond t p (properties_else (built_properties b c) rest c)
     one p e true f =
         let below : c < (add_line b line).state.next = omega (arith, next-accepted b line p e, eqb-true p.code c f) in
@@ -93,8 +93,8 @@ built_properties-lines b (line ∷ lines) c g =
 
     go : (o : Option Properties) → accepted b line ≡ o
         → properties_else (built_properties (add_line b line) c) rest c ≡ properties_else (built_properties b c) (and_given o rest) c
-    go none e = ap (λ (x : Built). properties_else (built_properties x c) rest c) (add_line-none b line e)
-    go (some p) e = one p e (eqb p.code c) refl
+    go None e = ap (λ (x : Built). properties_else (built_properties x c) rest c) (add_line-none b line e)
+    go (Some p) e = one p e (eqb p.code c) refl
 
 -- ---- from the fresh state
 
@@ -121,7 +121,7 @@ add_lines-append b [] ys = refl
 add_lines-append b (x ∷ xs) ys = add_lines-append (add_line b x) xs ys
 
 -- the table has an accepted line's properties, whatever follows
-built_properties-line : (b : Built) (line : List ℕ) (p : Properties) (after : List (List ℕ)) → Grown b → accepted b line ≡ some p
+built_properties-line : (b : Built) (line : List ℕ) (p : Properties) (after : List (List ℕ)) → Grown b → accepted b line ≡ Some p
     → built_properties (add_lines b (line ∷ after)) p.code ≡ p
 unfolding add_lines
 built_properties-line b line p after g taken =
@@ -153,7 +153,7 @@ accepted-later b first a = record {
 }
 
 -- the first line, if it is accepted
-accepted-first : (b : Built) (first : List ℕ) (lines : List (List ℕ)) (p : Properties) → accepted b first ≡ some p
+accepted-first : (b : Built) (first : List ℕ) (lines : List (List ℕ)) (p : Properties) → accepted b first ≡ Some p
     → Accepted b (first ∷ lines) first p
 unfolding add_lines
 accepted-first b first lines p e =
@@ -172,8 +172,8 @@ accepted_of-other b (first ∷ lines) c h =
     go : (o : Option Properties) → accepted b first ≡ o
         → properties_of (accepted_of (add_line b first) lines) c ≡ itself c
         → properties_of (and_given o (accepted_of (add_line b first) lines)) c ≡ itself c
-    go none e rest = rest
-    go (some p) e rest = rw (ne_eqb p.code c (h first p (accepted-first b first lines p e))) rest
+    go None e rest = rest
+    go (Some p) e rest = rw (ne_eqb p.code c (h first p (accepted-first b first lines p e))) rest
 
 module _ (t : Table) (lines : List (List ℕ)) where
   -- of the code point of an accepted line, the entries of a built table have the titlecase and the parts that the line gives

@@ -1,7 +1,6 @@
 -- Lines by computation: what the builder answers to them, from a fresh state with room for two entries and four pool numbers.
 -- Assumes nothing.
 use mathlib.Core.Path.{◌≡◌, refl}
-use mathlib.Core.Option.{bind}
 use mathlib.Core.List.{List, [], ◌∷◌, ◌++◌, map}
 use Prim.Native.Nat.{ℕ}
 use lib.ListN.{replicate}
@@ -180,19 +179,19 @@ rows =
     ∷ []
 
 pub answers : map (λ r. line_answer start r.0) rows ≡ map (λ r. r.1) rows
-unfolding add_line line_refusal line_properties bind entry_count put_entry
+unfolding add_line line_refusal line_properties entry_count put_entry
     cut digits code_point code_points decomposition code_point_or titlecase syllable
 answers = refl
 
 -- a code point below the last
 pub answer-26 : line_answer (add_line start e-acute) small-a ≡ refused (refusal 26 0 0)
-unfolding add_line line_refusal line_properties bind entry_count put_entry
+unfolding add_line line_refusal line_properties entry_count put_entry
     cut digits code_point code_points decomposition code_point_or titlecase syllable
 answer-26 = refl
 
 -- the entry of a line whose titlecase is in field 12 alone
 pub uppercase-stored : (add_line start small-a-upper).table ≡ (add_line start small-a).table
-unfolding add_line line_refusal line_properties bind entry_count put_entry
+unfolding add_line line_refusal line_properties entry_count put_entry
     cut digits code_point code_points decomposition code_point_or titlecase syllable
 uppercase-stored = refl
 
@@ -201,6 +200,6 @@ pub two-lines : (add_lines start (e-acute ∷ ligature ∷ [])).table
     ≡ table
     (entry_numbers (entry 0xE9 0xC9 0 2) ++ entry_numbers (entry 0xFB01 0xFB01 2 2))
     (0x65 ∷ 0x301 ∷ 0x66 ∷ 0x69 ∷ [])
-unfolding add_lines add_line line_refusal line_properties bind entry_count put_entry
+unfolding add_lines add_line line_refusal line_properties entry_count put_entry
     cut digits code_point code_points decomposition code_point_or titlecase syllable
 two-lines = refl

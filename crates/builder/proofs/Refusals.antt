@@ -3,7 +3,7 @@
 use mathlib.Core.Path.{◌≡◌, refl, sym, ◌∙◌}
 use Prim.Native.Nat.{ℕ, ◌≤◌}
 use mathlib.Core.Bool.{true, false, ◌&&◌, ◌||◌, not}
-use mathlib.Core.Option.{Option, none, some}
+use Rattle.std.specs.Prelude.{Option, None, Some}
 use mathlib.Core.List.{List, ◌++◌}
 use lib.Dec.{ltb}
 use lib.ListN.{length}
@@ -45,7 +45,7 @@ module _ (b : Built) (line : List ℕ) where
   pool = length b.table.pool
 
   -- an impossible state
-  pub line_refusal-28 : impossible b.state entries pool ≡ true → line_refusal b line ≡ some (refusal 28 0 0)
+  pub line_refusal-28 : impossible b.state entries pool ≡ true → line_refusal b line ≡ Some (refusal 28 0 0)
   unfolding line_refusal
   line_refusal-28 i = rw i
 
@@ -58,42 +58,42 @@ module _ (b : Built) (line : List ℕ) where
         rw possible (first-append (reading_checks line) (given_checks b.state entries pool (line_properties line)))
 
     -- the reading is refused
-    pub line_refusal-reading : {r : Refusal} → reading_refusal line ≡ some r → line_refusal b line ≡ some r
+    pub line_refusal-reading : {r : Refusal} → reading_refusal line ≡ Some r → line_refusal b line ≡ Some r
     line_refusal-reading e = line_refusal-possible ∙ rw e
 
     -- it is not: what the line gives
-    pub line_refusal-given : {p : Properties} → reading_refusal line ≡ none → line_properties line ≡ some p
+    pub line_refusal-given : {p : Properties} → reading_refusal line ≡ None → line_properties line ≡ Some p
         → line_refusal b line ≡ properties_refusal b p
     unfolding properties_refusal
     line_refusal-given e f = line_refusal-possible ∙ rw (e, f)
 
   -- a line that is not refused: nor are its reading and what it gives
-  line_refusal-none : line_refusal b line ≡ none
-      → (reading_refusal line ≡ none) × (first (given_checks b.state entries pool (line_properties line)) ≡ none)
+  line_refusal-none : line_refusal b line ≡ None
+      → (reading_refusal line ≡ None) × (first (given_checks b.state entries pool (line_properties line)) ≡ None)
   unfolding line_refusal reading_refusal
   line_refusal-none e =
       let given = given_checks b.state entries pool (line_properties line) in
       let rest = (or_else-neither (line_check (impossible b.state entries pool) 28) (first (reading_checks line ++ given)) e).1 in
       or_else-neither (first (reading_checks line)) (first given) (sym (first-append (reading_checks line) given) ∙ rest)
 
-  pub unrefused-reading : line_refusal b line ≡ none → reading_refusal line ≡ none
+  pub unrefused-reading : line_refusal b line ≡ None → reading_refusal line ≡ None
   unrefused-reading e = (line_refusal-none e).0
 
   -- so a line that is not refused gives something
-  pub unrefused-given : line_refusal b line ≡ none → (p : Properties) × (line_properties line ≡ some p)
+  pub unrefused-given : line_refusal b line ≡ None → (p : Properties) × (line_properties line ≡ Some p)
   unrefused-given e = line_properties-read line (line_refusal-none e).0
 
 -- ---- an accepted line
 
 -- what is given is not refused
-unless_refused-some : (x : Option Refusal) (given : Option Properties) (p : Properties) → unless_refused x given ≡ some p
-    → (x ≡ none) × (given ≡ some p)
-unless_refused-some none given p e = (refl, e)
-unless_refused-some (some r) given p e = (cc, cc)
+unless_refused-some : (x : Option Refusal) (given : Option Properties) (p : Properties) → unless_refused x given ≡ Some p
+    → (x ≡ None) × (given ≡ Some p)
+unless_refused-some None given p e = (refl, e)
+unless_refused-some (Some r) given p e = (cc, cc)
 
 -- an accepted line is not refused, and gives what it gives
-pub accepted-some : (b : Built) (line : List ℕ) (p : Properties) → accepted b line ≡ some p
-    → (line_refusal b line ≡ none) × (line_properties line ≡ some p)
+pub accepted-some : (b : Built) (line : List ℕ) (p : Properties) → accepted b line ≡ Some p
+    → (line_refusal b line ≡ None) × (line_properties line ≡ Some p)
 accepted-some b line p e = unless_refused-some (line_refusal b line) (line_properties line) p e
 
 -- the numbers of properties are scalar, and the code point is no syllable
@@ -121,7 +121,7 @@ pub record Passes (b : Built) (p : Properties) : Type 0 where
   pub room : says_nothing p ≡ false → NextFits b p
 
 -- an accepted line passes
-pub passes : (b : Built) (line : List ℕ) (p : Properties) → accepted b line ≡ some p → Passes b p
+pub passes : (b : Built) (line : List ℕ) (p : Properties) → accepted b line ≡ Some p → Passes b p
 passes b line p e =
     let a = accepted-some b line p e in
     let st = b.state in

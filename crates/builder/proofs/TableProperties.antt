@@ -5,7 +5,7 @@ use mathlib.Core.Path.{◌≡◌, refl, sym, ◌∙◌, ap, ap₂}
 use Prim.Native.Nat.{ℕ, ◌≤◌, ◌<◌}
 use native.Mathlib.Omega.{arith}
 use mathlib.Core.Bool.{Bool, true, false, cond}
-use mathlib.Core.Option.{Option, none, some}
+use Rattle.std.specs.Prelude.{Option, None, Some}
 use mathlib.Core.List.{List, [], ◌∷◌}
 use lib.Dec.{eqb}
 use lib.ListN.{length, take, drop, length-drop}
@@ -53,7 +53,7 @@ itself-nothing p e =
 
 module _ (b : Built) (g : Grown b) where
   -- a code point above the entries has none
-  entry_of-above : (c : ℕ) → b.state.next ≤ c → entry_of (cut b).entries c ≡ none
+  entry_of-above : (c : ℕ) → b.state.next ≤ c → entry_of (cut b).entries c ≡ None
   entry_of-above c h =
       entry_of-none (cut b).entries c (λ i l e. omega (arith, g.below i (omega (arith, entry_count-cut g))))
 
@@ -90,7 +90,7 @@ module _ (b : Built) (g : Grown b) where
       within = omega (arith, room.entries-held)
 
       -- by the new entry: the properties
-      by_last : properties_in after p.code (some n) ≡ p
+      by_last : properties_in after p.code (Some n) ≡ p
       by_last =
           ap₂ (properties p.code)
           (title_at-last n e b.table.entries within)
@@ -102,7 +102,7 @@ module _ (b : Built) (g : Grown b) where
           ∙ take-length p.parts)
 
       -- by an entry before: as before
-      by-entry : (c i : ℕ) → i < n → properties_in after c (some i) ≡ properties_in (cut b) c (some i)
+      by-entry : (c i : ℕ) → i < n → properties_in after c (Some i) ≡ properties_in (cut b) c (Some i)
       by-entry c i h =
           let start = start_at (cut b).entries i in
           let count = count_at (cut b).entries i in
@@ -118,9 +118,9 @@ module _ (b : Built) (g : Grown b) where
           ∙ take-append-le count (drop start (cut b).pool) p.parts inside)
 
       by_before : (c : ℕ) (o : Option ℕ) → entry_of (cut b).entries c ≡ o
-          → properties_in after c (or_else o none) ≡ properties_in (cut b) c o
-      by_before c none f = refl
-      by_before c (some i) f = by-entry c i (omega (arith, (entry_of-some (cut b).entries c i f).0, entry_count-cut g))
+          → properties_in after c (or_else o None) ≡ properties_in (cut b) c o
+      by_before c None f = refl
+      by_before c (Some i) f = by-entry c i (omega (arith, (entry_of-some (cut b).entries c i f).0, entry_count-cut g))
 
       table_properties-appended : (c : ℕ)
           → table_properties (cut (appended b p)) c ≡ cond (eqb p.code c) p (table_properties (cut b) c)

@@ -2,7 +2,7 @@
 -- answers.
 -- Assumes nothing.
 use Rattle.std.specs.Prelude.{◌≡◌, ℕ, ◌+◌, Bool, cond, ◌&&◌, ◌||◌, not, List, [], ◌∷◌, ◌++◌, ltb, length}
-use Rattle.std.proofs.Math.Option.{Option, none, some}
+use Rattle.std.specs.Prelude.{Option, None, Some, Result, Ok, Err}
 use Rattle.terms.specs.CodePoints.{scalar}
 use Rattle.terms.specs.Lists.{all, put_at}
 use Rattle.terms.specs.Refusals.{entries_most, pool_most, first, answer, Outcome, refused, gives}
@@ -12,8 +12,7 @@ use Rattle.table.specs.Layout.{Entry, entry, entry_count, put_entry}
 use Rattle.table.specs.Table.{Table, table}
 use Rattle.ucd.specs.Lines.{Properties, line_properties, says_nothing, line_check, reading_checks}
 use Rattle.builder.specs.declared.LineState.{LineState}
-use Rattle.builder.specs.declared.Line.{Line}
-use Rattle.builder.specs.declared.Line.TheVariants.{Taken, Refused}
+use Rattle.builder.specs.declared.RefusedLine.{RefusedLine}
 
 -- the state and the two slices
 pub record Built : Type 0 where
@@ -56,8 +55,8 @@ properties_checks st entries pool p =
 
 -- the same of a line; one that gives nothing is refused before
 abbrev pub given_checks : LineState → ℕ → ℕ → Option Properties → List (Option Refusal)
-given_checks st entries pool none = []
-given_checks st entries pool (some p) = properties_checks st entries pool p
+given_checks st entries pool None = []
+given_checks st entries pool (Some p) = properties_checks st entries pool p
 
 -- all checks of a line "in this order": 28, 20 to 23, 29, 24, 25 to 27
 abbrev pub line_checks : LineState → ℕ → ℕ → List ℕ → List (Option Refusal)
@@ -101,8 +100,8 @@ added b p = cond (says_nothing p) (moved b p) (appended b p)
 
 -- what a line gives, unless it is refused
 abbrev pub unless_refused : Option Refusal → Option Properties → Option Properties
-unless_refused none given = given
-unless_refused (some r) given = none
+unless_refused None given = given
+unless_refused (Some r) given = None
 
 -- what an accepted line gives; nothing of a line that is refused
 abbrev pub accepted : Built → List ℕ → Option Properties
@@ -110,8 +109,8 @@ accepted b line = unless_refused (line_refusal b line) (line_properties line)
 
 -- what that leaves: "state and slices stay on refusal"
 abbrev pub add_given : Built → Option Properties → Built
-add_given b none = b
-add_given b (some p) = added b p
+add_given b None = b
+add_given b (Some p) = added b p
 
 -- the state and slices after a line
 unfoldable pub add_line : Built → List ℕ → Built
@@ -132,21 +131,25 @@ fresh = record { entries_used = 0; pool_used = 0; next = 0 }
 abbrev pub state_numbers : LineState → List ℕ
 state_numbers st = st.entries_used ∷ st.pool_used ∷ st.next ∷ []
 
+-- a refused line, with the state that came in
+abbrev pub refused_line : Refusal → LineState → RefusedLine
+refused_line r st = record { refusal = r; state = st }
+
 -- the answer: on a refusal its number; else the state
-abbrev pub line_outcome : Line → Outcome
-line_outcome (Taken st) = gives (state_numbers st)
-line_outcome (Refused r st) = refused r
+abbrev pub line_outcome : Result LineState RefusedLine → Outcome
+line_outcome (Ok st) = gives (state_numbers st)
+line_outcome (Err e) = refused e.refusal
 
 -- the state that comes back, refused or not
-abbrev pub state_after : Line → LineState
-state_after (Taken st) = st
-state_after (Refused r st) = st
+abbrev pub state_after : Result LineState RefusedLine → LineState
+state_after (Ok st) = st
+state_after (Err e) = e.state
 
 -- what a line answers
 abbrev pub line_answer : Built → List ℕ → Outcome
 line_answer b line = answer (line_refusal b line) (state_numbers (add_line b line).state)
 
 -- a line was added: the answer, and the state and slices that are left
-pub record Added (b : Built) (line : List ℕ) (r : Line) (entries pool : List ℕ) : Type 0 where
+pub record Added (b : Built) (line : List ℕ) (r : Result LineState RefusedLine) (entries pool : List ℕ) : Type 0 where
   pub answered : line_outcome r ≡ line_answer b line
   pub left : built (state_after r) entries pool ≡ add_line b line

@@ -2,7 +2,7 @@
 -- hold exactly the mappings of the accepted lines."
 -- Assumes nothing.
 use Rattle.std.specs.Prelude.{◌≡◌, ℕ, cond, List, [], ◌∷◌, ◌++◌, eqb, take}
-use Rattle.std.proofs.Math.Option.{Option, none, some}
+use Rattle.std.specs.Prelude.{Option, None, Some}
 use Rattle.table.specs.Layout.{first_entries}
 use Rattle.table.specs.Table.{Table, table}
 use Rattle.table.specs.Mapping.{Mapping}
@@ -26,13 +26,13 @@ pub record Accepted (b : Built) (lines : List (List ℕ)) (line : List ℕ) (p :
   pub before : List (List ℕ)
   pub after : List (List ℕ)
   pub split : lines ≡ before ++ line ∷ after
-  pub unrefused : line_refusal (add_lines b before) line ≡ none
-  pub given : line_properties line ≡ some p
+  pub unrefused : line_refusal (add_lines b before) line ≡ None
+  pub given : line_properties line ≡ Some p
 
 -- what is given, if something is, before the rest
 abbrev pub and_given : Option Properties → List Properties → List Properties
-and_given none ps = ps
-and_given (some p) ps = p ∷ ps
+and_given None ps = ps
+and_given (Some p) ps = p ∷ ps
 
 -- what the accepted lines of a sequence give, in their order
 unfoldable pub accepted_of : Built → List (List ℕ) → List Properties

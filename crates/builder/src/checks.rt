@@ -1,6 +1,8 @@
 // The checks of a line that are more than a comparison: 28, which looks at the state and the sizes of the slices, and of what the
 // line gives 25 and 27.
-ghost use Rattle.std.specs.Prelude.{◌≡◌, ◌≤◌, length};
+ghost use Rattle.std.specs.Prelude.{◌≡◌, ◌≤◌, ◌&&◌, length};
+ghost use Rattle.terms.specs.CodePoints.{scalar};
+ghost use Rattle.terms.specs.Lists.{all};
 ghost use Rattle.terms.specs.Refusals.{parts_most};
 ghost use Rattle.table.specs.Layout.{entry_count};
 ghost use Rattle.ucd.specs.Lines.{with_parts, says_nothing};
@@ -18,10 +20,7 @@ const NEXT_MOST: usize = 0x110000;
 pub fn is_impossible(state: LineState, entries: &[u32], pool: &[u32]) -> bool
     ensures { result ≡ impossible state (entry_count entries.now) (length pool.now) }
 {
-    if is_overfull(state.entries_used, state.pool_used, entries, pool) {
-        return true;
-    }
-    NEXT_MOST < state.next
+    is_overfull(state.entries_used, state.pool_used, entries, pool) || NEXT_MOST < state.next
 }
 
 // Whether there is no room for what a line gives, or a limit is passed.
@@ -37,69 +36,45 @@ pub fn is_crowded(
     ensures { result ≡ crowded state (entry_count entries.now) (length pool.now)
         (with_parts simple parts.now) }
 {
-    if says_nothing(simple, parts) {
-        return false;
-    }
-    is_overfull(
-        state.entries_used + 1,
-        state.pool_used + parts.len(),
-        entries,
-        pool,
-    )
+    !says_nothing(simple, parts)
+        && is_overfull(
+            state.entries_used + 1,
+            state.pool_used + parts.len(),
+            entries,
+            pool,
+        )
 }
 
 // Whether so many entries and pool numbers are more than the slices hold, or than may be.
 fn is_overfull(used: usize, filled: usize, entries: &[u32], pool: &[u32]) -> bool
     ensures { result ≡ overfull used filled (entry_count entries.now) (length pool.now) }
 {
-    if layout::entry_count(entries) < used {
-        return true;
-    }
-    if terms::ENTRIES_MOST < used {
-        return true;
-    }
-    if pool.len() < filled {
-        return true;
-    }
-    terms::POOL_MOST < filled
+    layout::entry_count(entries) < used
+        || terms::ENTRIES_MOST < used
+        || pool.len() < filled
+        || terms::POOL_MOST < filled
 }
 
 // Whether a line with a mapping has a surrogate, or is for a syllable.
 pub fn is_barred(simple: SimpleProperties, parts: &[u32]) -> bool
     ensures { result ≡ barred (with_parts simple parts.now) }
 {
-    if says_nothing(simple, parts) {
-        return false;
-    }
-    let code = simple.code;
-    if !terms::is_scalar(code.0) {
-        return true;
-    }
-    let title = simple.title;
-    if !terms::is_scalar(title.0) {
-        return true;
-    }
-    if hangul::is_syllable(code) {
-        return true;
-    }
-    let mut i = 0;
-    while i < parts.len() {
-        if !terms::is_scalar(parts[i]) {
-            return true;
-        }
-        i += 1;
-    }
-    false
+    !says_nothing(simple, parts)
+        && (!is_scalar_only(simple, parts) || hangul::is_syllable(simple.code))
+}
+
+// Whether no code point of a line is a surrogate.
+fn is_scalar_only(simple: SimpleProperties, parts: &[u32]) -> bool
+    ensures { result ≡ scalar simple.code.0 && scalar simple.title.0 && all scalar parts.now }
+{
+    terms::is_scalar(simple.code.0)
+        && terms::is_scalar(simple.title.0)
+        && parts.iter().all(|&c| terms::is_scalar(c))
 }
 
 // Whether a line says nothing: its titlecase is itself, and it has no parts.
 pub fn says_nothing(simple: SimpleProperties, parts: &[u32]) -> bool
     ensures { result ≡ says_nothing (with_parts simple parts.now) }
 {
-    let code = simple.code;
-    let title = simple.title;
-    if title.0 != code.0 {
-        return false;
-    }
-    parts.len() == 0
+    simple.title.0 == simple.code.0 && parts.is_empty()
 }

@@ -12,11 +12,12 @@ mod storing;
 ghost use Rattle.std.specs.Prelude.{◌≡◌, ◌≤◌, length};
 ghost use Rattle.terms.specs.Refusals.{parts_most, refusal};
 ghost use Rattle.ucd.specs.Lines.{with_parts};
-ghost use Rattle.builder.specs.Builder.{built, Added};
+ghost use Rattle.builder.specs.Builder.{built, refused_line, Added};
 ghost use Rattle.builder.specs.Promises.{UsedFits, AddedGiven};
+ghost use Rattle.terms.specs.Reasons.{reason_number};
 
-use terms::Refusal;
-use ucd::{Reading, SimpleProperties};
+use terms::{Reason, Refusal};
+use ucd::SimpleProperties;
 
 // The builder's state: entries used, pool numbers used, and one more than the last code point, or 0. All zeros is fresh.
 #[derive(Clone, Copy)]
@@ -26,26 +27,31 @@ pub struct LineState {
     pub next: usize,
 }
 
-// What becomes of a line, with the state afterwards: on a refusal the state that came in.
+// Why a line is refused, with the state that came in.
 #[derive(Clone, Copy)]
-pub enum Line {
-    Taken(LineState),
-    Refused(Refusal, LineState),
+pub struct RefusedLine {
+    pub refusal: Refusal,
+    pub state: LineState,
 }
 
-// Adds one line, without its line end: one entry and its parts, or only the last code point, or nothing on a refusal.
-pub fn add_line(state: LineState, line: &[u8], entries: &mut [u32], pool: &mut [u32]) -> Line
+// Adds one line, without its line end: one entry and its parts, or only the last code point, or nothing on a refusal. Answers
+// the state afterwards.
+pub fn add_line(
+    state: LineState,
+    line: &[u8],
+    entries: &mut [u32],
+    pool: &mut [u32],
+) -> Result<LineState, RefusedLine>
     ensures { Added (built state entries.old pool.old) line.now
         result entries.new pool.new }
 {
     if checks::is_impossible(state, entries, pool) {
-        return refused(terms::REFUSED_STATE, state);
+        return Err(refused(Reason::State, state));
     }
-    let mut parts = [0u32; terms::PARTS_MOST];
-    let reading = ucd::read_line(line, &mut parts);
-    match reading {
-        Reading::Read(simple, count) => { add_given(state, simple, &parts[..count], entries, pool) }
-        Reading::Refused(number) => refused(number, state),
+    let mut parts = [0; terms::PARTS_MOST];
+    match ucd::read_line(line, &mut parts) {
+        Ok((simple, count)) => add_given(state, simple, &parts[..count], entries, pool),
+        Err(fault) => Err(refused(Reason::from(fault), state)),
     }
 }
 
@@ -56,36 +62,34 @@ fn add_given(
     parts: &[u32],
     entries: &mut [u32],
     pool: &mut [u32],
-) -> Line
+) -> Result<LineState, RefusedLine>
     requires used_fits { UsedFits (built state entries.old pool.old) }
     requires parts_len_bound { length parts.now ≤ parts_most }
     ensures { AddedGiven (built state entries.old pool.old) (with_parts simple parts.now)
         result entries.new pool.new }
 {
     if checks::is_barred(simple, parts) {
-        return refused(terms::REFUSED_SURROGATE, state);
+        return Err(refused(Reason::Surrogate, state));
     }
-    let c = simple.code;
-    let code = c.0 as usize;
-    if code < state.next {
-        return refused(terms::REFUSED_ORDER, state);
+    if (simple.code.0 as usize) < state.next {
+        return Err(refused(Reason::Order, state));
     }
     if checks::is_crowded(state, simple, parts, entries, pool) {
-        return refused(terms::REFUSED_NO_ROOM, state);
+        return Err(refused(Reason::TableRoom, state));
     }
-    Line::Taken(storing::store(state, simple, parts, entries, pool))
+    Ok(storing::store(state, simple, parts, entries, pool))
 }
 
 // A line refused by its number, with the state that came in.
-fn refused(number: u32, state: LineState) -> Line
-    ensures { result ≡ Line.Refused (refusal number 0 0) state }
+fn refused(reason: Reason, state: LineState) -> RefusedLine
+    ensures { result ≡ refused_line (refusal (reason_number reason) 0 0) state }
 {
-    Line::Refused(
-        Refusal {
-            number,
+    RefusedLine {
+        refusal: Refusal {
+            reason,
             place: 0,
             detail: 0,
         },
         state,
-    )
+    }
 }

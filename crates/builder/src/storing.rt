@@ -23,23 +23,22 @@ pub fn store(
     ensures { built result entries.new pool.new
         ≡ added (built state entries.old pool.old) (with_parts simple parts.now) }
 {
-    let code = simple.code;
-    let title = simple.title;
-    let next = code.0 as usize + 1;
-    let used = state.entries_used;
-    let start = state.pool_used;
+    let next = simple.code.0 as usize + 1;
     if checks::says_nothing(simple, parts) {
-        return LineState {
-            entries_used: used,
-            pool_used: start,
-            next,
-        };
+        return LineState { next, ..state };
     }
-    layout::put_entry(entries, used, code, title, start as u32, parts.len() as u32);
-    put_at(parts, pool, start);
+    layout::put_entry(
+        entries,
+        state.entries_used,
+        simple.code,
+        simple.title,
+        state.pool_used as u32,
+        parts.len() as u32,
+    );
+    put_at(parts, pool, state.pool_used);
     LineState {
-        entries_used: used + 1,
-        pool_used: start + parts.len(),
+        entries_used: state.entries_used + 1,
+        pool_used: state.pool_used + parts.len(),
         next,
     }
 }
@@ -49,9 +48,5 @@ fn put_at(numbers: &[u32], out: &mut [u32], at: usize)
     requires { at + length numbers.now ≤ length out.old }
     ensures { out.new ≡ put_at at numbers.now out.old }
 {
-    let mut i = 0;
-    while i < numbers.len() {
-        out[at + i] = numbers[i];
-        i += 1;
-    }
+    out[at..at + numbers.len()].copy_from_slice(numbers);
 }

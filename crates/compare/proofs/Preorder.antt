@@ -6,7 +6,7 @@ use mathlib.Core.Path.{◌≡◌, refl, sym, ap, ◌∙◌}
 use Prim.Native.Nat.{ℕ, Ordering}
 use mathlib.Core.Bool.{Bool, true, false}
 use mathlib.Core.Logic.{◌⊎◌, inl, inr, ◌↔◌}
-use mathlib.Core.Option.{none, some}
+use Rattle.std.specs.Prelude.{None, Some}
 use mathlib.Core.List.{List, [], ◌∷◌}
 use Rattle.terms.specs.Lists.{there}
 use Rattle.terms.specs.declared.Collation.TheVariants.{UnicodeCasemap}
@@ -22,11 +22,9 @@ use Rattle.pages.specs.Pages.{Pages}
 use Rattle.prepare.specs.Calls.{Lent, call, Called}
 use Rattle.prepare.proofs.CallRefusals.{unrefused-table}
 use Rattle.compare.specs.Compare.{order_outcome, equality_outcome, order_values, equality_values, ordered_by, equality_by}
-use Rattle.compare.specs.Compare.{order_of_keys, equality_of_keys, OrderSays, EqualSays, flipped}
-use Rattle.compare.specs.declared.Equality.{Equality}
-use Rattle.compare.specs.declared.Equality.TheVariants.{Match}
-use Rattle.compare.specs.declared.Ordered.{Ordered}
-use Rattle.compare.specs.declared.Ordered.TheVariants.{Less, Equal, Greater}
+use Rattle.compare.specs.Compare.{Equality, Ordered, order_of_keys, equality_of_keys, OrderSays, EqualSays, flipped}
+use Rattle.std.specs.Prelude.{Ok}
+use Rattle.std.specs.declared.cmp.Ordering.TheVariants.{Less, Equal, Greater}
 use Rattle.compare.proofs.Injective.{equality_outcome-inj, order_outcome-inj}
 use Rattle.compare.proofs.Calls.{order_outcome-ordered_by}
 use Rattle.compare.proofs.Says.{equality_outcome-ordered_by, ordered_by-equal, ordered_by-match, ordered_by-less}
@@ -51,21 +49,21 @@ module _ {p q : PreparedText} where
   -- ---- ties
 
   -- `order` says Equal of exactly the texts with one key
-  pub answers-tie : {r : Ordered} → OrderSays p q r → (r ≡ Equal) ↔ (p.key ≡ q.key)
+  pub answers-tie : {r : Ordered} → OrderSays p q r → (r ≡ Ok Equal) ↔ (p.key ≡ q.key)
   answers-tie c = (
     λ e. order-equal p.key q.key (ordered_by-equal (order_of p.key q.key) (sym (answers-keys c) ∙ e)),
     λ e. answers-keys c ∙ ap ordered_by (same e),
   )
 
   -- `equal` says Match of exactly those
-  pub matches-tie : {r : Equality} → EqualSays p q r → (r ≡ Match) ↔ (p.key ≡ q.key)
+  pub matches-tie : {r : Equality} → EqualSays p q r → (r ≡ Ok true) ↔ (p.key ≡ q.key)
   matches-tie c = (
     λ e. order-equal p.key q.key (ordered_by-match (order_of p.key q.key) (sym (matches-keys c) ∙ e)),
     λ e. matches-keys c ∙ ap (λ (o : Ordering). equality_by (ordered_by o)) (same e),
   )
 
   -- so `order` says Equal where `equal` says Match
-  pub answers-match : {r : Ordered} {x : Equality} → OrderSays p q r → EqualSays p q x → (r ≡ Equal) ↔ (x ≡ Match)
+  pub answers-match : {r : Ordered} {x : Equality} → OrderSays p q r → EqualSays p q x → (r ≡ Ok Equal) ↔ (x ≡ Ok true)
   answers-match c d = (
     λ e. (matches-tie d).1 ((answers-tie c).0 e),
     λ e. (answers-tie c).1 ((matches-tie d).0 e),
@@ -76,7 +74,7 @@ module _ {p q : PreparedText} where
   answers-same c d = answers-keys c ∙ sym (answers-keys d)
 
   -- an answer that is not Greater, by the keys
-  not-greater : {r : Ordered} → OrderSays p q r → (r ≡ Greater → ⊥) ↔ AtMost p.key q.key
+  not-greater : {r : Ordered} → OrderSays p q r → (r ≡ Ok Greater → ⊥) ↔ AtMost p.key q.key
   not-greater c = (
     λ h e. h (answers-keys c ∙ ap ordered_by e),
     λ h e. h (ordered_by-greater (order_of p.key q.key) (sym (answers-keys c) ∙ e)),
@@ -85,7 +83,7 @@ module _ {p q : PreparedText} where
 -- ---- a total preorder
 
 -- a text is Equal to itself
-pub answers-refl : {p : PreparedText} {r : Ordered} → OrderSays p p r → r ≡ Equal
+pub answers-refl : {p : PreparedText} {r : Ordered} → OrderSays p p r → r ≡ Ok Equal
 answers-refl c = (answers-tie c).1 refl
 
 -- the answer turns round with the texts
@@ -98,12 +96,12 @@ answers-flip {p} {q} c d =
 
 module _ {p q s : PreparedText} {r x y : Ordered} (c : OrderSays p q r) (d : OrderSays q s x) (e : OrderSays p s y) where
   -- what is not Greater than what is not Greater is not Greater
-  pub answers-trans : (r ≡ Greater → ⊥) → (x ≡ Greater → ⊥) → y ≡ Greater → ⊥
+  pub answers-trans : (r ≡ Ok Greater → ⊥) → (x ≡ Ok Greater → ⊥) → y ≡ Ok Greater → ⊥
   answers-trans h j =
       (not-greater e).1 (at-most-trans p.key q.key s.key ((not-greater c).0 h) ((not-greater d).0 j))
 
   -- what is Less than what is Less is Less
-  pub answers-less : r ≡ Less → x ≡ Less → y ≡ Less
+  pub answers-less : r ≡ Ok Less → x ≡ Ok Less → y ≡ Ok Less
   answers-less h j =
       answers-keys e
       ∙ ap ordered_by
@@ -112,17 +110,17 @@ module _ {p q s : PreparedText} {r x y : Ordered} (c : OrderSays p q r) (d : Ord
 
 -- of two texts one is not Greater than the other
 pub answers-total : {p q : PreparedText} {r x : Ordered} → OrderSays p q r → OrderSays q p x
-    → (r ≡ Greater → ⊥) ⊎ (x ≡ Greater → ⊥)
+    → (r ≡ Ok Greater → ⊥) ⊎ (x ≡ Ok Greater → ⊥)
 answers-total {p} {q} {r} {x} c d = go (at-most-total p.key q.key)
   where
-    go : AtMost p.key q.key ⊎ AtMost q.key p.key → (r ≡ Greater → ⊥) ⊎ (x ≡ Greater → ⊥)
+    go : AtMost p.key q.key ⊎ AtMost q.key p.key → (r ≡ Ok Greater → ⊥) ⊎ (x ≡ Ok Greater → ⊥)
     go (inl h) = inl ((not-greater c).1 h)
     go (inr h) = inr ((not-greater d).1 h)
 
 -- ---- "Under collation 3 a valid and an invalid text are never equal"
 
 -- texts with one key under collation 3 are both valid or both invalid
-same-validity : (t : Table) (x y : List ℕ) → table_refusal t ≡ none
+same-validity : (t : Table) (x y : List ℕ) → table_refusal t ≡ None
     → key_of UnicodeCasemap (mapping_of t) x ≡ key_of UnicodeCasemap (mapping_of t) y
     → there (characters x) ≡ there (characters y)
 same-validity t x y ok key = go (there (characters x)) (there (characters y)) refl refl
@@ -135,15 +133,15 @@ same-validity t x y ok key = go (there (characters x)) (there (characters y)) re
 
 module _ {t : Table} {g : Pages} {l m : Lent} {after : List (List ℕ)} where
   -- where just one of two texts is valid, `order` does not say Equal
-  pub answers-valid : Called order_outcome order_values (call (some UnicodeCasemap) t g (l ∷ m ∷ [])) Equal after
+  pub answers-valid : Called order_outcome order_values (call (Some UnicodeCasemap) t g (l ∷ m ∷ [])) (Ok Equal) after
       → there (characters l.text) ≡ there (characters m.text)
   answers-valid h =
-      let accepted = unrefused-table (call (some UnicodeCasemap) t g (l ∷ m ∷ [])) (given-unrefused order_of_keys h tt) in
+      let accepted = unrefused-table (call (Some UnicodeCasemap) t g (l ∷ m ∷ [])) (given-unrefused order_of_keys h tt) in
       same-validity t l.text m.text accepted ((answers-tie (says h tt)).0 refl)
 
   -- nor does `equal` say Match
-  pub matches-valid : Called equality_outcome equality_values (call (some UnicodeCasemap) t g (l ∷ m ∷ [])) Match after
+  pub matches-valid : Called equality_outcome equality_values (call (Some UnicodeCasemap) t g (l ∷ m ∷ [])) (Ok true) after
       → there (characters l.text) ≡ there (characters m.text)
   matches-valid h =
-      let accepted = unrefused-table (call (some UnicodeCasemap) t g (l ∷ m ∷ [])) (given-unrefused equality_of_keys h tt) in
+      let accepted = unrefused-table (call (Some UnicodeCasemap) t g (l ∷ m ∷ [])) (given-unrefused equality_of_keys h tt) in
       same-validity t l.text m.text accepted ((matches-tie (says h tt)).0 refl)

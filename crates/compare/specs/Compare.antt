@@ -1,38 +1,44 @@
 -- What equality and order answer, in the paper's numbers. `Called` of the crate prepare says the rest of such a call.
 -- Assumes nothing.
-use Rattle.std.specs.Prelude.{◌≡◌, cond, List, [], ◌∷◌}
+use Rattle.std.specs.Prelude.{◌≡◌, Bool, true, false, cond, List, [], ◌∷◌, Option, None, Some, Result, Ok, Err}
 use Prim.Native.Nat.{ℕ, Ordering}
-use Rattle.std.proofs.Math.Option.{Option, none, some}
 use Rattle.terms.specs.Lists.{same}
-use Rattle.terms.specs.Refusals.{Outcome, refused, gives, Given}
-use Rattle.octets.specs.Order.{order_of}
+use Rattle.terms.specs.Refusals.{Outcome, outcome, Given}
+use Rattle.std.specs.declared.cmp.Ordering as std
+use Rattle.std.specs.declared.cmp.Ordering.TheVariants.{Less, Equal, Greater}
+use Rattle.terms.specs.declared.Refusal.{Refusal}
+use Rattle.octets.specs.Order.{order_of, compared_order}
 use Rattle.keys.specs.Keys.{PreparedText}
 use Rattle.prepare.specs.Calls.{Call, prepared_in, Called}
-use Rattle.compare.specs.declared.Equality.{Equality}
-use Rattle.compare.specs.declared.Equality.TheVariants.{Match, NoMatch, Refused}
-use Rattle.compare.specs.declared.Ordered.{Ordered}
-use Rattle.compare.specs.declared.Ordered.TheVariants.{Less, Equal, Greater, Refused as Unordered}
 
 -- ---- the answers
 
+-- what equality answers: whether the texts match, or the refusal
+abbrev pub Equality : Type 0
+Equality = Result Bool Refusal
+
+-- what order answers: how the texts are ordered, or the refusal; a refused order is no order
+abbrev pub Ordered : Type 0
+Ordered = Result std.Ordering Refusal
+
+-- the number of a match, and of none
+abbrev pub match_number : Bool → ℕ
+match_number true = 1
+match_number false = 2
+
 -- equality: 1 match, 2 no-match
 abbrev pub equality_outcome : Equality → Outcome
-equality_outcome Match = gives (1 ∷ [])
-equality_outcome NoMatch = gives (2 ∷ [])
-equality_outcome (Refused r) = refused r
-
--- order: 1 less, 2 equal, 3 greater
-abbrev pub order_outcome : Ordered → Outcome
-order_outcome Less = gives (1 ∷ [])
-order_outcome Equal = gives (2 ∷ [])
-order_outcome Greater = gives (3 ∷ [])
-order_outcome (Unordered r) = refused r
+equality_outcome r = outcome (λ m. match_number m ∷ []) r
 
 -- the number of an order
 abbrev pub order_number : Ordering → ℕ
 order_number Ordering.lt = 1
 order_number Ordering.eq = 2
 order_number Ordering.gt = 3
+
+-- order: 1 less, 2 equal, 3 greater
+abbrev pub order_outcome : Ordered → Outcome
+order_outcome r = outcome (λ o. order_number (compared_order o) ∷ []) r
 
 -- order by two keys: "Order compares keys octet by octet"
 abbrev pub order_of_keys : List ℕ → List ℕ → ℕ
@@ -46,10 +52,10 @@ equality_of_keys a b = cond (same a b) 1 2
 
 -- a number by two texts' keys; nothing where the texts are not two
 abbrev pub compared : (List ℕ → List ℕ → ℕ) → List PreparedText → Option (List ℕ)
-compared number [] = none
-compared number (p ∷ []) = none
-compared number (p ∷ q ∷ []) = some (number p.key q.key ∷ [])
-compared number (p ∷ q ∷ r ∷ ps) = none
+compared number [] = None
+compared number (p ∷ []) = None
+compared number (p ∷ q ∷ []) = Some (number p.key q.key ∷ [])
+compared number (p ∷ q ∷ r ∷ ps) = None
 
 -- the values of a comparing call, of order and of equality
 abbrev pub compared_values : (List ℕ → List ℕ → ℕ) → Call → Option (List ℕ)
@@ -65,16 +71,16 @@ equality_values c = compared_values equality_of_keys c
 
 -- an order of keys as an answer
 abbrev pub ordered_by : Ordering → Ordered
-ordered_by Ordering.lt = Less
-ordered_by Ordering.eq = Equal
-ordered_by Ordering.gt = Greater
+ordered_by Ordering.lt = Ok Less
+ordered_by Ordering.eq = Ok Equal
+ordered_by Ordering.gt = Ok Greater
 
 -- equality by an order: keys are equal where neither is less
 abbrev pub equality_by : Ordered → Equality
-equality_by Less = NoMatch
-equality_by Equal = Match
-equality_by Greater = NoMatch
-equality_by (Unordered r) = Refused r
+equality_by (Ok Less) = Ok false
+equality_by (Ok Equal) = Ok true
+equality_by (Ok Greater) = Ok false
+equality_by (Err r) = Err r
 
 -- ---- answers that are no refusals
 
@@ -95,7 +101,7 @@ EqualSays p q r = Says equality_outcome equality_of_keys p q r
 
 -- an order with its two texts exchanged
 abbrev pub flipped : Ordered → Ordered
-flipped Less = Greater
-flipped Equal = Equal
-flipped Greater = Less
-flipped (Unordered r) = Unordered r
+flipped (Ok Less) = Ok Greater
+flipped (Ok Equal) = Ok Equal
+flipped (Ok Greater) = Ok Less
+flipped (Err r) = Err r

@@ -5,38 +5,20 @@
 #![tactic(auto)]
 
 ghost use Rattle.std.specs.Prelude.{◌≡◌, [], ◌∷◌, ◌≤◌, length};
-ghost use Rattle.std.proofs.Math.Option.{some};
+ghost use Rattle.std.specs.Prelude.{Some};
 ghost use Rattle.terms.specs.Collations.{collation_of};
 ghost use Rattle.terms.specs.Refusals.{text_most};
-ghost use Rattle.octets.specs.Order.{order_of};
+ghost use Rattle.octets.specs.Order.{order_of, compared_order};
 ghost use Rattle.table.specs.Table.{table};
 ghost use Rattle.pages.specs.Pages.{pages};
 ghost use Rattle.keys.specs.Keys.{UsableUnder};
 ghost use Rattle.keys.specs.Summaries.{shown_at};
 ghost use Rattle.prepare.specs.Calls.{two_call, Called, CalledPaging, CalledReady, UsableBy};
-ghost use Rattle.compare.specs.Compare.{order_outcome, equality_outcome, order_values, equality_values, ordered_by, equality_by};
+ghost use Rattle.compare.specs.Compare.{order_outcome, equality_outcome, order_values, equality_values, equality_by};
 
 use keys::Summary;
-use octets::Comparison;
-use prepare::{CallCheck, PreparedPair};
+use std::cmp::Ordering;
 use terms::{Collation, Refusal};
-
-// Whether two texts are equal under a collation.
-#[derive(Clone, Copy)]
-pub enum Equality {
-    Match,
-    NoMatch,
-    Refused(Refusal),
-}
-
-// How two texts are ordered under a collation. A refused order is no order.
-#[derive(Clone, Copy)]
-pub enum Ordered {
-    Less,
-    Equal,
-    Greater,
-    Refused(Refusal),
-}
 
 // Whether two texts are equal under a collation. Both keys are left as by `prepare`, each in its own buffer.
 pub fn equal(
@@ -49,17 +31,16 @@ pub fn equal(
     ranks: &mut [u64],
     first_key: &mut [u8],
     second_key: &mut [u8],
-) -> Equality
+) -> Result<bool, Refusal>
     ensures { CalledPaging equality_outcome equality_values (two_call (collation_of collation) first.now
         second.now entries.now pool.now presence.old ranks.old
         first_key.old
         second_key.old) result (first_key.new ∷ second_key.new ∷ [])
         (pages presence.new ranks.new) }
 {
-    let ordered = order(
+    equality_of(order(
         collation, first, second, entries, pool, presence, ranks, first_key, second_key,
-    );
-    equality_of(ordered)
+    ))
 }
 
 // As `equal`, over a table that is accepted already, with its pages.
@@ -73,17 +54,16 @@ pub fn equal_accepted(
     ranks: &[u64],
     first_key: &mut [u8],
     second_key: &mut [u8],
-) -> Equality
+) -> Result<bool, Refusal>
     requires { UsableBy (collation_of collation) (table entries.now pool.now) (pages presence.now ranks.now) }
     ensures { Called equality_outcome equality_values (two_call (collation_of collation) first.now
         second.now entries.now pool.now presence.now ranks.now
         first_key.old
         second_key.old) result (first_key.new ∷ second_key.new ∷ []) }
 {
-    let ordered = order_accepted(
+    equality_of(order_accepted(
         collation, first, second, entries, pool, presence, ranks, first_key, second_key,
-    );
-    equality_of(ordered)
+    ))
 }
 
 // How two texts are ordered under a collation. Both keys are left as by `prepare`, each in its own buffer.
@@ -97,14 +77,14 @@ pub fn order(
     ranks: &mut [u64],
     first_key: &mut [u8],
     second_key: &mut [u8],
-) -> Ordered
+) -> Result<Ordering, Refusal>
     ensures { CalledPaging order_outcome order_values (two_call (collation_of collation) first.now
         second.now entries.now pool.now presence.old ranks.old
         first_key.old
         second_key.old) result (first_key.new ∷ second_key.new ∷ [])
         (pages presence.new ranks.new) }
 {
-    let checked = prepare::check_call(
+    prepare::check_call(
         collation,
         first.len(),
         second.len(),
@@ -112,13 +92,10 @@ pub fn order(
         pool,
         presence,
         ranks,
-    );
-    match checked {
-        CallCheck::Passed(_) => order_accepted(
-            collation, first, second, entries, pool, presence, ranks, first_key, second_key,
-        ),
-        CallCheck::Refused(r) => Ordered::Refused(r),
-    }
+    )?;
+    order_accepted(
+        collation, first, second, entries, pool, presence, ranks, first_key, second_key,
+    )
 }
 
 // As `order`, over a table that is accepted already, with its pages.
@@ -132,20 +109,17 @@ pub fn order_accepted(
     ranks: &[u64],
     first_key: &mut [u8],
     second_key: &mut [u8],
-) -> Ordered
+) -> Result<Ordering, Refusal>
     requires { UsableBy (collation_of collation) (table entries.now pool.now) (pages presence.now ranks.now) }
     ensures { Called order_outcome order_values (two_call (collation_of collation) first.now
         second.now entries.now pool.now presence.now ranks.now
         first_key.old
         second_key.old) result (first_key.new ∷ second_key.new ∷ []) }
 {
-    let texts = prepare::check_texts(collation, first.len(), second.len());
-    match texts {
-        CallCheck::Passed(known) => order_ready(
-            known, first, second, entries, pool, presence, ranks, first_key, second_key,
-        ),
-        CallCheck::Refused(r) => Ordered::Refused(r),
-    }
+    let known = prepare::check_texts(collation, first.len(), second.len())?;
+    order_ready(
+        known, first, second, entries, pool, presence, ranks, first_key, second_key,
+    )
 }
 
 // Orders two texts where 1 to 7 and 15 were passed.
@@ -159,33 +133,25 @@ fn order_ready(
     ranks: &[u64],
     first_key: &mut [u8],
     second_key: &mut [u8],
-) -> Ordered
+) -> Result<Ordering, Refusal>
     requires first_len_bound { length first.now ≤ text_most }
     requires second_len_bound { length second.now ≤ text_most }
     requires usable_under { UsableUnder collation (table entries.now pool.now) (pages presence.now ranks.now) }
-    ensures { CalledReady order_outcome order_values (two_call (some collation) first.now second.now
+    ensures { CalledReady order_outcome order_values (two_call (Some collation) first.now second.now
         entries.now pool.now presence.now ranks.now first_key.old
         second_key.old) result (first_key.new ∷ second_key.new ∷ []) }
 {
-    let pair = prepare::fill_two(
+    let (one, two) = prepare::fill_two(
         collation, first, second, entries, pool, presence, ranks, first_key, second_key,
-    );
-    match pair {
-        PreparedPair::Both(one, two) => order_shown(first, first_key, one, second, second_key, two),
-        PreparedPair::Refused(r) => Ordered::Refused(r),
-    }
+    )?;
+    Ok(order_shown(first, first_key, one, second, second_key, two))
 }
 
 // Equality by an order: keys are equal where neither is less.
-fn equality_of(ordered: Ordered) -> Equality
+fn equality_of(ordered: Result<Ordering, Refusal>) -> Result<bool, Refusal>
     ensures { result ≡ equality_by ordered }
 {
-    match ordered {
-        Ordered::Less => Equality::NoMatch,
-        Ordered::Equal => Equality::Match,
-        Ordered::Greater => Equality::NoMatch,
-        Ordered::Refused(r) => Equality::Refused(r),
-    }
+    Ok(ordered?.is_eq())
 }
 
 // The order of the keys that two prepared texts show.
@@ -196,17 +162,12 @@ fn order_shown<'a, 'b>(
     second: &'b [u8],
     second_key: &'b [u8],
     two: Summary,
-) -> Ordered
-    ensures { result ≡ ordered_by (order_of
+) -> Ordering
+    ensures { compared_order result ≡ order_of
         (shown_at one.place one.key_length first.now first_key.now)
-        (shown_at two.place two.key_length second.now second_key.now)) }
+        (shown_at two.place two.key_length second.now second_key.now) }
 {
     let a = keys::shown_part(first, first_key, one);
     let b = keys::shown_part(second, second_key, two);
-    let comparison = octets::compare_octets(a, b);
-    match comparison {
-        Comparison::Less => Ordered::Less,
-        Comparison::Equal => Ordered::Equal,
-        Comparison::Greater => Ordered::Greater,
-    }
+    octets::compare_octets(a, b)
 }

@@ -1,14 +1,14 @@
 -- "A code point in a cycle, or leading into one, has no level."
 -- Assumes nothing.
 use mathlib.Core.Path.{◌≡◌, sym, ◌∙◌}
-use Prim.Native.Nat.{ℕ, suc, ◌≤◌, ◌<◌}
+use Prim.Native.Nat.{ℕ, suc, ◌<◌}
 use native.Mathlib.Omega.{arith}
 use mathlib.Core.List.{List, [], ◌∷◌, ◌++◌}
 use Rattle.terms.specs.Lists.{In}
 use Rattle.table.specs.Mapping.{Mapping}
 use Rattle.decompose.specs.Levels.{Level, Highest, Leads, straight, through}
 use Rattle.decompose.specs.Levels.Level.{whole, split}
-use Rattle.decompose.specs.Levels.Highest.{done, more}
+use Rattle.decompose.specs.Levels.Highest.{more}
 use Rattle.decompose.proofs.Levels.{level-unique}
 
 -- what has an element is not empty

@@ -7,7 +7,7 @@ use mathlib.Core.Path.{◌≡◌, refl, sym, ap, ◌∙◌}
 use Prim.Native.Nat.{ℕ, ◌*◌, ◌≤◌, ◌<◌}
 use native.Mathlib.Omega.{arith}
 use mathlib.Core.Bool.{Bool, true, false, not, true≢false}
-use mathlib.Core.Option.{Option, none, some}
+use Rattle.std.specs.Prelude.{Option, None, Some}
 use mathlib.Core.List.{List, [], ◌∷◌}
 use mathlib.Core.Logic.{◌↔◌, ◌⊎◌, inl, inr, ⊎_elim}
 use lib.Dec.{leb}
@@ -69,18 +69,18 @@ well→unfolds m c w =
     short = rw same at w.short
 
 -- neither of two checks applies
-neither : (a b : Option Refusal) → or_else a (or_else b none) ≡ none → (a ≡ none) × (b ≡ none)
-neither a b e = let h = or_else-neither a (or_else b none) e in (h.0, (or_else-neither b none h.1).0)
+neither : (a b : Option Refusal) → or_else a (or_else b None) ≡ None → (a ≡ None) × (b ≡ None)
+neither a b e = let h = or_else-neither a (or_else b None) e in (h.0, (or_else-neither b None h.1).0)
 
 -- a table that is accepted has the form
-pub accepted-form : (t : Table) → table_refusal t ≡ none → form_refusal t ≡ none
+pub accepted-form : (t : Table) → table_refusal t ≡ None → form_refusal t ≡ None
 unfolding table_refusal
 accepted-form t e =
     (neither (form_refusal t) (refused_at 7 (level_fault t)) e).0
 
 -- and 7 finds no fault in it, of an entry or of a syllable
-accepted-levels : (t : Table) → table_refusal t ≡ none
-    → (lowest (faulty_level t) (entry_count t.entries) ≡ none) × (faulty_syllable (mapping_of t) ≡ false)
+accepted-levels : (t : Table) → table_refusal t ≡ None
+    → (lowest (faulty_level t) (entry_count t.entries) ≡ None) × (faulty_syllable (mapping_of t) ≡ false)
 unfolding table_refusal
 accepted-levels t e =
     let n = entry_count t.entries in
@@ -90,18 +90,18 @@ accepted-levels t e =
     (h.0, when-none (faulty_syllable (mapping_of t)) n h.1)
 
 -- so every entry's code point passes
-accepted-entry : (t : Table) → table_refusal t ≡ none → (i : ℕ) → i < entry_count t.entries
+accepted-entry : (t : Table) → table_refusal t ≡ None → (i : ℕ) → i < entry_count t.entries
     → unfolds (mapping_of t) (code_at t.entries i) ≡ true
 accepted-entry t e i l =
     not-false (unfolds (mapping_of t) (code_at t.entries i))
     (lowest-none (faulty_level t) (entry_count t.entries) (accepted-levels t e).0 i l)
 
 -- and every syllable
-accepted-syllable : (t : Table) → table_refusal t ≡ none → (c : ℕ) → syllable c ≡ true → unfolds (mapping_of t) c ≡ true
+accepted-syllable : (t : Table) → table_refusal t ≡ None → (c : ℕ) → syllable c ≡ true → unfolds (mapping_of t) c ≡ true
 accepted-syllable t e c is = syllables-unfold (mapping_of t) (accepted-levels t e).1 c is
 
 -- a table of the form without a fault of either kind is accepted
-sound-accepted : (t : Table) → Sound t → table_refusal t ≡ none
+sound-accepted : (t : Table) → Sound t → table_refusal t ≡ None
 unfolding table_refusal
 sound-accepted t s =
     rw (
@@ -114,10 +114,10 @@ sound-accepted t s =
     passes i l = ap not (well→unfolds (mapping_of t) (code_at t.entries i) (s.entries i l))
 
 -- a table is accepted exactly when it is sound
-pub accepted-exactly : (t : Table) → (table_refusal t ≡ none) ↔ Sound t
+pub accepted-exactly : (t : Table) → (table_refusal t ≡ None) ↔ Sound t
 accepted-exactly t = (accepted-sound, sound-accepted t)
   where
-    accepted-sound : table_refusal t ≡ none → Sound t
+    accepted-sound : table_refusal t ≡ None → Sound t
     accepted-sound e = record {
       form = accepted-form t e;
       entries = λ i l. unfolds→well (mapping_of t) (code_at t.entries i) (accepted-entry t e i l);
@@ -143,7 +143,7 @@ module _ (t : Table) (i : ℕ) where
   abbrev n : ℕ
   n = entry_count t.entries
 
-  by-syllable : lowest (faulty_level t) n ≡ none → (b : Bool) → faulty_syllable m ≡ b → when b n ≡ some i
+  by-syllable : lowest (faulty_level t) n ≡ None → (b : Bool) → faulty_syllable m ≡ b → when b n ≡ Some i
       → LowestUnsound t i ⊎ SyllableUnsound t i
   by-syllable nowhere true faulty e =
       let failing = syllable-fails m faulty in
@@ -156,10 +156,10 @@ module _ (t : Table) (i : ℕ) where
       })
   by-syllable nowhere false faulty e = absurd (none-some i e)
 
-  found : (o : Option ℕ) → lowest (faulty_level t) n ≡ o → level_fault t ≡ some i → LowestUnsound t i ⊎ SyllableUnsound t i
-  found none nowhere e = by-syllable nowhere (faulty_syllable m) refl (rw nowhere at e)
-  found (some j) here e =
-      let same : lowest (faulty_level t) n ≡ some i = here ∙ rw here at e in
+  found : (o : Option ℕ) → lowest (faulty_level t) n ≡ o → level_fault t ≡ Some i → LowestUnsound t i ⊎ SyllableUnsound t i
+  found None nowhere e = by-syllable nowhere (faulty_syllable m) refl (rw nowhere at e)
+  found (Some j) here e =
+      let same : lowest (faulty_level t) n ≡ Some i = here ∙ rw here at e in
       let first = lowest-some (faulty_level t) n i same in
       inl (record {
         below = first.below;
@@ -167,34 +167,34 @@ module _ (t : Table) (i : ℕ) where
         lower = λ k l. unfolds→well m (code_at t.entries k) (not-false _ (first.first k l));
       })
 
-  is-lowest : LowestUnsound t i → level_fault t ≡ some i
+  is-lowest : LowestUnsound t i → level_fault t ≡ Some i
   is-lowest h =
       or_else-first (lowest (faulty_level t) n) _ i
       (lowest-is (faulty_level t) n i h.below
       (ap not (fails m (code_at t.entries i) h.unsound))
       (λ j l. ap not (well→unfolds m (code_at t.entries j) (h.lower j l))))
 
-  is-count : SyllableUnsound t i → level_fault t ≡ some i
+  is-count : SyllableUnsound t i → level_fault t ≡ Some i
   is-count h =
       let nowhere = lowest-nowhere (faulty_level t) n (λ j l. ap not (well→unfolds m (code_at t.entries j) (h.entries j l))) in
       let faulty = syllable-faulty m h.code h.is-syllable
       (λ e. h.unsound (unfolds→well m h.code e)) in
-      rw (nowhere, faulty) (ap some (sym h.count))
+      rw (nowhere, faulty) (ap Some (sym h.count))
 
   -- 7 finds its fault at i exactly when that is the lowest entry that does not unfold well, or the number of entries, where only a
   -- syllable does not
-  pub level_fault-exactly : (level_fault t ≡ some i) ↔ (LowestUnsound t i ⊎ SyllableUnsound t i)
+  pub level_fault-exactly : (level_fault t ≡ Some i) ↔ (LowestUnsound t i ⊎ SyllableUnsound t i)
   level_fault-exactly = (found (lowest (faulty_level t) n) refl, ⊎_elim is-lowest is-count)
 
-module _ (t : Table) (e : table_refusal t ≡ none) where
+module _ (t : Table) (e : table_refusal t ≡ None) where
   -- "every code point in it": of an accepted table every code point passes the test of 7, with an entry or without, so every part
   -- and every titlecase
   pub accepted-all : (c : ℕ) → unfolds (mapping_of t) c ≡ true
   accepted-all c = go (syllable c) refl
     where
       listed : syllable c ≡ false → (o : Option ℕ) → entry_of t.entries c ≡ o → unfolds (mapping_of t) c ≡ true
-      listed other none q = unfolds-whole (mapping_of t) c (parts_of-none t c other q)
-      listed other (some i) q =
+      listed other None q = unfolds-whole (mapping_of t) c (parts_of-none t c other q)
+      listed other (Some i) q =
           let found = entry_of-some t.entries c i q in
           rw found.1 at (accepted-entry t e i found.0)
 

@@ -5,7 +5,7 @@ use mathlib.Core.Path.{◌≡◌, refl, sym, ap, ◌∙◌}
 use Prim.Native.Nat.{ℕ, ◌+◌, ◌-◌, ◌≤◌, ◌<◌}
 use native.Mathlib.Omega.{arith}
 use mathlib.Core.Bool.{Bool, true, false, ◌&&◌}
-use mathlib.Core.Option.{Option, none, some}
+use Rattle.std.specs.Prelude.{Option, None, Some}
 use mathlib.Core.List.{List}
 use lib.Dec.{leb}
 use lib.ListN.{length, get_or, take, length-append}
@@ -29,7 +29,7 @@ pub measured-parts : {m : Mapping} {c : ℕ} {ps : List ℕ} → Split m c ps �
 measured-parts s n room h = rw (within-parts s n h, full-parts s n h)
 
 -- with no level left it is too much
-pub measured-none : {m : Mapping} {c : ℕ} {ps : List ℕ} → Split m c ps → (room : ℕ) → measured m 0 room c ≡ none
+pub measured-none : {m : Mapping} {c : ℕ} {ps : List ℕ} → Split m c ps → (room : ℕ) → measured m 0 room c ≡ None
 measured-none s room = rw (within_none s)
 
 -- the first i parts are within n levels and come to `count` code points, for which there is room
@@ -45,12 +45,12 @@ unfolding each
 measuring-start = record { passed = omega arith; level = refl; size = refl; fits = omega arith }
 
 -- a measurement that fits: within the levels, and how many code points
-pub measured-some : (m : Mapping) (n room c k : ℕ) → measured m n room c ≡ some k
+pub measured-some : (m : Mapping) (n room c k : ℕ) → measured m n room c ≡ Some k
     → (within m n c ≡ true) × (length (full m n c) ≡ k) × (k ≤ room)
 measured-some m n room c k e = go (within m n c) (leb (length (full m n c)) room) refl refl e
   where
     go : (a b : Bool) → within m n c ≡ a → leb (length (full m n c)) room ≡ b
-        → when (a && b) (length (full m n c)) ≡ some k
+        → when (a && b) (length (full m n c)) ≡ Some k
         → (within m n c ≡ true) × (length (full m n c) ≡ k) × (k ≤ room)
     go true true p q r =
         let same : length (full m n c) ≡ k = cc in
@@ -61,7 +61,7 @@ measured-some m n room c k e = go (within m n c) (leb (length (full m n c)) room
 -- one part more
 pub measuring-more : {m : Mapping} {n : ℕ} {ps : List ℕ} {room count i k : ℕ} → Measuring m n ps room count i
     → i < length ps
-    → measured m n (room - count) (get_or ps i 0) ≡ some k
+    → measured m n (room - count) (get_or ps i 0) ≡ Some k
     → Measuring m n ps room (count + k) (i + 1)
 measuring-more {m} {n} {ps} {room} {count} {i} {k} w l e =
     let part = measured-some m n (room - count) (get_or ps i 0) k e in
@@ -80,7 +80,7 @@ measuring-more {m} {n} {ps} {room} {count} {i} {k} w l e =
 -- every part was measured
 pub measuring-done : {m : Mapping} {n : ℕ} {ps : List ℕ} {room count i : ℕ} → Measuring m n ps room count i
     → length ps ≤ i
-    → some count ≡ measured_parts m n room ps
+    → Some count ≡ measured_parts m n room ps
 measuring-done {m} {n} {ps} {room} {count} {i} w l =
     let whole = take_all i ps l in
     let level : all (λ p. within m n p) ps ≡ true = rw whole at w.level in
@@ -90,13 +90,13 @@ measuring-done {m} {n} {ps} {room} {count} {i} w l =
 -- a part that is too much is too much for all
 pub measuring-stop : {m : Mapping} {n : ℕ} {ps : List ℕ} {room count i : ℕ} → Measuring m n ps room count i
     → i < length ps
-    → measured m n (room - count) (get_or ps i 0) ≡ none
-    → none ≡ measured_parts m n room ps
+    → measured m n (room - count) (get_or ps i 0) ≡ None
+    → None ≡ measured_parts m n room ps
 measuring-stop {m} {n} {ps} {room} {count} {i} w l e =
     go (all (λ p. within m n p) ps) (leb (length (fulls m n ps)) room) refl refl
   where
     go : (a b : Bool) → all (λ p. within m n p) ps ≡ a → leb (length (fulls m n ps)) room ≡ b
-        → none ≡ when (a && b) (length (fulls m n ps))
+        → None ≡ when (a && b) (length (fulls m n ps))
     go false b x y = refl
     go true false x y = refl
     go true true x y =
@@ -110,7 +110,7 @@ measuring-stop {m} {n} {ps} {room} {count} {i} w l e =
           length-append (fulls m n (take i ps)) (full m n (get_or ps i 0)),
         )
         in
-        let fits : measured m n (room - count) (get_or ps i 0) ≡ some (length (full m n (get_or ps i 0))) =
+        let fits : measured m n (room - count) (get_or ps i 0) ≡ Some (length (full m n (get_or ps i 0))) =
         rw (level, le-leb (length (full m n (get_or ps i 0))) (room - count) short)
         in
         absurd (none-some (length (full m n (get_or ps i 0))) (sym e ∙ fits))

@@ -1,11 +1,10 @@
 -- What the published steps make of a syllable over a table: its level, its lookups, and that it becomes what its jamo become.
 -- Assumes nothing.
 use mathlib.Core.Path.{◌≡◌, refl, sym, ap, ◌∙◌}
-use Prim.Native.Nat.{ℕ, suc, ◌≤◌}
+use Prim.Native.Nat.{ℕ, suc}
 use native.Mathlib.Omega.{arith}
-use mathlib.Core.Bool.{true, cond, ◌&&◌}
-use mathlib.Core.Logic.{◌↔◌}
-use mathlib.Core.Option.{none}
+use mathlib.Core.Bool.{true, ◌&&◌}
+use Rattle.std.specs.Prelude.{None}
 use mathlib.Core.List.{List, [], ◌∷◌, ◌++◌}
 use lib.Dec.{leb}
 use lib.ListN.{length}
@@ -25,7 +24,7 @@ use Rattle.decompose.specs.Steps.{expanded, lookups}
 use Rattle.decompose.specs.TableCheck.{table_refusal}
 use Rattle.decompose.specs.Promises.{jamo_levels, Split}
 use Rattle.decompose.proofs.Levels.{empty-true, full-same, asks-same}
-use Rattle.decompose.proofs.Walk.{fulls, within-parts, full-parts, asks-parts, syllable-split, bounded_unfolds}
+use Rattle.decompose.proofs.Walk.{within-parts, full-parts, asks-parts, syllable-split, bounded_unfolds}
 use Rattle.decompose.proofs.Demand3.{accepted-form, accepted-all}
 
 -- ---- its level
@@ -59,7 +58,7 @@ encodes-each f [] = refl
 encodes-each f (p ∷ ps) =
     each_append encode (f p) (each f ps) ∙ ap (λ (xs : List ℕ). encodes (f p) ++ xs) (encodes-each f ps)
 
-module _ (t : Table) (e : table_refusal t ≡ none) (c : ℕ) (is : syllable c ≡ true) where
+module _ (t : Table) (e : table_refusal t ≡ None) (c : ℕ) (is : syllable c ≡ true) where
   abbrev m : Mapping
   m = mapping_of t
 

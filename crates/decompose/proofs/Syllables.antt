@@ -5,7 +5,7 @@ use mathlib.Core.Path.{◌≡◌, refl, sym, ap, ◌∙◌}
 use Prim.Native.Nat.{ℕ, zero, suc, ◌+◌, ◌-◌, ◌≤◌, ◌<◌}
 use native.Mathlib.Omega.{arith}
 use mathlib.Core.Bool.{Bool, true, false, cond, ◌&&◌, not, true≢false}
-use mathlib.Core.Option.{Option, none, some}
+use Rattle.std.specs.Prelude.{Option, None, Some}
 use mathlib.Core.List.{List, [], ◌∷◌}
 use lib.Dec.{leb, eqb}
 use borrow.Author.Tests.{leb-true, le-leb, not-true, not-false, ne_eqb}
@@ -28,13 +28,13 @@ use Rattle.decompose.proofs.Largest.{size, largest-each, largest-room, largest-o
 -- ---- faulty_syllable
 
 -- nothing is there, and something is
-there-none : (o : Option ℕ) → there o ≡ false → o ≡ none
-there-none none e = refl
-there-none (some i) e = cc
+there-none : (o : Option ℕ) → there o ≡ false → o ≡ None
+there-none None e = refl
+there-none (Some i) e = cc
 
-there-some : (o : Option ℕ) → there o ≡ true → (i : ℕ) × (o ≡ some i)
-there-some none e = absurd (true≢false (sym e))
-there-some (some i) e = (i, refl)
+there-some : (o : Option ℕ) → there o ≡ true → (i : ℕ) × (o ≡ Some i)
+there-some None e = absurd (true≢false (sym e))
+there-some (Some i) e = (i, refl)
 
 -- a test that isn't false
 true-unless : (b : Bool) → (b ≡ false → ⊥) → b ≡ true
@@ -144,16 +144,16 @@ module _ (m : Mapping) (rule : (c : ℕ) → syllable c ≡ true → m.parts c �
       (all_first (λ p. within m jamo_levels p) (t_base + suc t) [] last, omega (arith, h.1))
 
   -- a leading consonant that doesn't fit
-  pub leading-faulty : largest m full_most l_base l_count ≡ none → faulty_syllable m ≡ true
+  pub leading-faulty : largest m full_most l_base l_count ≡ None → faulty_syllable m ≡ true
   leading-faulty e =
       let l = largest-none m full_most l_base l_count e in
       true-unless (faulty_syllable m) λ sound.
       (let fit = two-fit l.0 0 l.1 (omega arith) sound in
       too_much m full_most (l_base + l.0) l.2 fit.0 (omega (arith, fit.2)))
 
-  module _ (a : ℕ) (leading : largest m full_most l_base l_count ≡ some a) where
+  module _ (a : ℕ) (leading : largest m full_most l_base l_count ≡ Some a) where
     -- a vowel that doesn't fit beside the largest leading consonant
-    pub vowel-faulty : largest m (full_most - a) v_base v_count ≡ none → faulty_syllable m ≡ true
+    pub vowel-faulty : largest m (full_most - a) v_base v_count ≡ None → faulty_syllable m ≡ true
     vowel-faulty e =
         let l = largest-one m full_most l_base l_count a (omega arith) leading in
         let v = largest-none m (full_most - a) v_base v_count e in
@@ -161,9 +161,9 @@ module _ (m : Mapping) (rule : (c : ℕ) → syllable c ≡ true → m.parts c �
         (let fit = two-fit l.0 v.0 l.1 v.1 sound in
         too_much m (full_most - a) (v_base + v.0) v.2 fit.1 (omega (arith, fit.2, l.2)))
 
-    module _ (b : ℕ) (vowel : largest m (full_most - a) v_base v_count ≡ some b) where
+    module _ (b : ℕ) (vowel : largest m (full_most - a) v_base v_count ≡ Some b) where
       -- a trailing consonant that doesn't fit beside the largest of both
-      pub trailing-faulty : largest m (full_most - a - b) (t_base + 1) (t_count - 1) ≡ none → faulty_syllable m ≡ true
+      pub trailing-faulty : largest m (full_most - a - b) (t_base + 1) (t_count - 1) ≡ None → faulty_syllable m ≡ true
       trailing-faulty e =
           let l = largest-one m full_most l_base l_count a (omega arith) leading in
           let v = largest-one m (full_most - a) v_base v_count b (omega arith) vowel in
@@ -174,7 +174,7 @@ module _ (m : Mapping) (rule : (c : ℕ) → syllable c ≡ true → m.parts c �
           too_much m (full_most - a - b) (t_base + suc t.0) (rw same at t.2) fit.0 (omega (arith, fit.1, l.2, v.2)))
 
       -- all fit: no syllable is at fault
-      pub jamo-sound : (d : ℕ) → largest m (full_most - a - b) (t_base + 1) (t_count - 1) ≡ some d → faulty_syllable m ≡ false
+      pub jamo-sound : (d : ℕ) → largest m (full_most - a - b) (t_base + 1) (t_count - 1) ≡ Some d → faulty_syllable m ≡ false
       unfolding total
       jamo-sound d trailing = syllables-sound m sound
         where
@@ -216,9 +216,9 @@ module _ (m : Mapping) (rule : (c : ℕ) → syllable c ≡ true → m.parts c �
 
 -- so of a table: the measurements of 67 jamo say that no syllable is at fault
 pub table-syllables : (t : Table) (a b d : ℕ)
-    → largest (mapping_of t) full_most l_base l_count ≡ some a
-    → largest (mapping_of t) (full_most - a) v_base v_count ≡ some b
-    → largest (mapping_of t) (full_most - a - b) (t_base + 1) (t_count - 1) ≡ some d
+    → largest (mapping_of t) full_most l_base l_count ≡ Some a
+    → largest (mapping_of t) (full_most - a) v_base v_count ≡ Some b
+    → largest (mapping_of t) (full_most - a - b) (t_base + 1) (t_count - 1) ≡ Some d
     → faulty_syllable (mapping_of t) ≡ false
 table-syllables t a b d leading vowel trailing =
     jamo-sound (mapping_of t) (parts_of-syllable t) a leading b vowel d trailing

@@ -13,9 +13,9 @@ use Rattle.utf8.specs.Utf8.{Character, encodes}
 use Rattle.decompose.specs.Levels.{Level, Unfolds, UnfoldEach, within, full, asks}
 use Rattle.decompose.specs.Levels.Unfolds.{stays, decomposes}
 use Rattle.decompose.specs.Levels.UnfoldEach.{none_left, part}
-use Rattle.decompose.specs.Steps.{StepsGive, expansion, lookups, steps_key, steps_lookups}
+use Rattle.decompose.specs.Steps.{StepsGive}
 use Rattle.decompose.specs.Steps.StepsGive.{no-character, character}
-use Rattle.decompose.proofs.Levels.{level→within, empty-true, full-whole, asks-whole}
+use Rattle.decompose.proofs.Levels.{level→within, empty-true}
 
 -- ---- one way
 
@@ -104,8 +104,8 @@ within→unfolds m (suc n) c e = go (m.parts c) refl (parts-unfold m n (within�
         (suc (total (λ p. asks m n p) (m.parts c)))
     go [] q u = rw q (stays q)
     go (p ∷ ps) q u =
-        let some : m.parts c ≡ [] → ⊥ = λ r. (let z : ◌≡◌ {A = ℕ} 0 1 = cc in omega arith) in
-        rw (ap empty q) (decomposes some u)
+        let Some : m.parts c ≡ [] → ⊥ = λ r. (let z : ◌≡◌ {A = ℕ} 0 1 = cc in omega arith) in
+        rw (ap empty q) (decomposes Some u)
 
 -- so does one with a level of at most n
 pub level→unfolds : (m : Mapping) {c l : ℕ} → Level m c l → (n : ℕ) → l ≤ n → Unfolds m c (full m n c) (asks m n c)

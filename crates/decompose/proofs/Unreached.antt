@@ -3,7 +3,7 @@
 -- Assumes nothing.
 use mathlib.Core.Path.{◌≡◌}
 use Prim.Native.Nat.{ℕ, ◌≤◌}
-use mathlib.Core.Option.{none}
+use Rattle.std.specs.Prelude.{None}
 use Rattle.terms.specs.Refusals.{levels_most}
 use Rattle.table.specs.Mapping.{Mapping}
 use Rattle.table.specs.Table.{Table, mapping_of}
@@ -22,7 +22,7 @@ module _ (m : Mapping) {c l : ℕ} (level : Level m c l) (n k : ℕ) (enough : l
   pub level-asks : asks m k c ≡ asks m n c
   level-asks = asks-same m n k c (level→within m level n enough) more
 
-module _ (t : Table) (e : table_refusal t ≡ none) (k : ℕ) (more : levels_most ≤ k) (c : ℕ) where
+module _ (t : Table) (e : table_refusal t ≡ None) (k : ℕ) (more : levels_most ≤ k) (c : ℕ) where
   -- the number 8 cuts nothing off in an accepted table: more levels change nothing of a full decomposition
   pub accepted-full-same : full (mapping_of t) k c ≡ full (mapping_of t) levels_most c
   accepted-full-same =

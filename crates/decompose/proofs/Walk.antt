@@ -7,7 +7,7 @@ use native.Mathlib.Nat.{mul-le-mul}
 use native.Mathlib.Numerals.{sub-one}
 use native.Mathlib.Omega.{arith}
 use mathlib.Core.Bool.{true, false, not}
-use mathlib.Core.Option.{none}
+use Rattle.std.specs.Prelude.{None}
 use mathlib.Core.List.{List, [], ◌∷◌, append-nil}
 use lib.Dec.{leb}
 use lib.ListN.{length, get_or, take, length-append}
@@ -88,7 +88,7 @@ module _ (t : Table) (c : ℕ) (ps : List ℕ) where
       ∙ empty-true ps (not-false (empty ps) (or_left (not (empty ps)) (syllable c) d))
 
   -- it does: these are its parts, or it is a syllable
-  pub listed-some : form_refusal t ≡ none → ps ≡ entry_parts t c → decomposing c ps ≡ true → Listed (mapping_of t) c ps
+  pub listed-some : form_refusal t ≡ None → ps ≡ entry_parts t c → decomposing c ps ≡ true → Listed (mapping_of t) c ps
   listed-some form e d = record {
     parts = λ some-parts. e ∙ sym (parts_of-entry t form c (λ no-parts. some-parts (ap length (e ∙ no-parts))));
     by-rule = go ps d;

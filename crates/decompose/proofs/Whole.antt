@@ -5,7 +5,7 @@ use Prim.Native.Nat.{ℕ, suc, ◌+◌}
 use native.Mathlib.Nat.{zero-add}
 use native.Mathlib.Omega.{arith}
 use mathlib.Core.Bool.{true}
-use mathlib.Core.List.{List, [], ◌∷◌, ◌++◌, append_assoc}
+use mathlib.Core.List.{List, [], ◌++◌, append_assoc}
 use Rattle.terms.specs.Lists.{all, empty}
 use Rattle.terms.proofs.Lists.{all_cons, all_append}
 use Rattle.utf8.specs.Utf8.{Character, encodes}

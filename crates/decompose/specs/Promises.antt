@@ -1,7 +1,7 @@
 -- What the contracts of the crate say with the definitions of the other files.
 -- Assumes nothing.
 use Rattle.std.specs.Prelude.{◌≡◌, ℕ, zero, suc, max, ◌+◌, ◌-◌, ◌≤◌, ◌<◌, Bool, true, ◌&&◌, ◌||◌, not, List, leb, length}
-use Rattle.std.proofs.Math.Option.{Option, none, some}
+use Rattle.std.specs.Prelude.{Option, None, Some}
 use Rattle.terms.specs.Lists.{empty, when, over}
 use Rattle.terms.specs.Refusals.{levels_most, full_most}
 use Rattle.hangul.specs.Hangul.{syllable}
@@ -9,8 +9,6 @@ use Rattle.table.specs.Mapping.{Mapping}
 use Rattle.utf8.specs.Utf8.{encodes}
 use Rattle.decompose.specs.Levels.{within, full, asks}
 use Rattle.decompose.specs.Steps.{expansion, lookups}
-use Rattle.decompose.specs.declared.Measurement.{Measurement}
-use Rattle.decompose.specs.declared.Measurement.TheVariants.{Fits, TooMuch}
 use Rattle.decompose.specs.declared.Unfolded.{Unfolded}
 
 -- how many code points a code point unfolds into, if within n levels and into at most `room`
@@ -19,9 +17,9 @@ measured m n room c = when (within m n c && leb (length (full m n c)) room) (len
 
 -- the larger of two measurements, if both fit
 abbrev pub larger : Option ℕ → Option ℕ → Option ℕ
-larger none b = none
-larger (some x) none = none
-larger (some x) (some y) = some (max x y)
+larger None b = None
+larger (Some x) None = None
+larger (Some x) (Some y) = Some (max x y)
 
 -- the most levels of a jamo in an accepted table: a syllable has one more
 abbrev pub jamo_levels : ℕ
@@ -29,13 +27,8 @@ jamo_levels = levels_most - 1
 
 -- the largest measurement of n jamo from `from` on, if each is within those levels and has at most `room` code points
 unfoldable pub largest : Mapping → ℕ → ℕ → ℕ → Option ℕ
-largest m room from zero = some 0
+largest m room from zero = Some 0
 largest m room from (suc n) = larger (largest m room from n) (measured m jamo_levels room (from + n))
-
--- the number of a measurement
-abbrev pub measured_size : Measurement → Option ℕ
-measured_size (Fits k) = some k
-measured_size TooMuch = none
 
 -- the parts of a code point, of which there are some
 pub record Split (m : Mapping) (c : ℕ) (ps : List ℕ) : Type 0 where

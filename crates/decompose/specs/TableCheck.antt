@@ -1,7 +1,7 @@
 -- The whole check of a table: 3 to 7 in the paper's order; and the tables that demand 3 says are accepted.
 -- Assumes nothing.
 use Rattle.std.specs.Prelude.{◌≡◌, ℕ, ◌+◌, ◌≤◌, ◌<◌, Bool, true, ◌&&◌, not, List, [], ◌∷◌, leb, length}
-use Rattle.std.proofs.Math.Option.{Option, none}
+use Rattle.std.specs.Prelude.{Option, None}
 use Rattle.terms.specs.Lists.{there, or_else, when, lowest}
 use Rattle.terms.specs.Refusals.{levels_most, full_most, first, answer, Outcome}
 use Rattle.terms.specs.declared.Refusal.{Refusal}
@@ -40,7 +40,7 @@ table_answer t = answer (table_refusal t) []
 
 -- a table was accepted, and two slices hold its pages: what a call over it may go on with
 pub record Usable (t : Table) (p : Pages) : Type 0 where
-  pub accepted : table_refusal t ≡ none
+  pub accepted : table_refusal t ≡ None
   pub paged : Paged t.entries p
 
 -- ---- the same in demand 3's words
@@ -59,7 +59,7 @@ pub record UnfoldsWell (m : Mapping) (c : ℕ) : Type 0 where
 -- a table has "document 01's form", none of 3 to 6, "and every code point in it unfolds" so: that of every entry, and every
 -- syllable, "whether or not the table names them". (Then every code point at all does: `accepted-level` of proofs/Demand3.antt.)
 pub record Sound (t : Table) : Type 0 where
-  pub form : form_refusal t ≡ none
+  pub form : form_refusal t ≡ None
   pub entries : (i : ℕ) → i < entry_count t.entries → UnfoldsWell (mapping_of t) (code_at t.entries i)
   pub syllables : (c : ℕ) → syllable c ≡ true → UnfoldsWell (mapping_of t) c
 

@@ -16,7 +16,6 @@ ghost use Rattle.terms.specs.CodePoints.{scalar};
 ghost use Rattle.terms.specs.Refusals.{check_outcome};
 ghost use Rattle.utf8.specs.Utf8.{encodes};
 ghost use Rattle.table.specs.Table.{table, entry_of, title_of, entry_parts, mapping_of};
-ghost use Rattle.table.specs.Promises.{place_found};
 ghost use Rattle.pages.specs.Pages.{pages};
 ghost use Rattle.pages.specs.Promises.{Findable};
 ghost use Rattle.decompose.specs.Levels.{full};
@@ -26,16 +25,8 @@ ghost use Rattle.decompose.specs.Promises.{decomposing, Listed, Bounded, FullCou
 ghost use Rattle.decompose.specs.Promises.{ExpansionFilled};
 
 pub use plain::plain_row;
-use table::{Place, layout};
-use terms::{Check, CodePoint};
-
-// How many code points a code point unfolds into.
-#[derive(Clone, Copy)]
-pub enum Measurement {
-    Fits(usize),
-    // More levels or code points than there was room for.
-    TooMuch,
-}
+use table::layout;
+use terms::{CodePoint, Refusal};
 
 // What unfolding came to: the octets of the code points, and the asks.
 #[derive(Clone, Copy)]
@@ -45,14 +36,11 @@ pub struct Unfolded {
 }
 
 // Whether a table is accepted, or which of 3 to 7 refuses it.
-pub fn check_table(entries: &[u32], pool: &[u32]) -> Check
+pub fn check_table(entries: &[u32], pool: &[u32]) -> Result<(), Refusal>
     ensures { check_outcome result ≡ table_answer (table entries.now pool.now) }
 {
-    let form = table::check_form(entries, pool);
-    match form {
-        Check::Passed => depth::check_levels(entries, pool),
-        Check::Refused(r) => Check::Refused(r),
-    }
+    table::check_form(entries, pool)?;
+    depth::check_levels(entries, pool)
 }
 
 // The octets of a code point's expansion, and the lookups for it.
@@ -131,38 +119,35 @@ pub fn write_expansion(
 fn decomposes(c: CodePoint, listed: &[u32]) -> bool
     ensures { result ≡ decomposing c.0 listed.now }
 {
-    if listed.len() != 0 {
-        return true;
-    }
-    hangul::is_syllable(c)
+    listed.len() != 0 || hangul::is_syllable(c)
 }
 
 // The titlecase of a code point whose entry was looked for.
-fn title_of(c: CodePoint, place: Place, entries: &[u32]) -> CodePoint
-    requires { place_found place ≡ entry_of entries.now c.0 }
+fn title_of(c: CodePoint, place: Option<usize>, entries: &[u32]) -> CodePoint
+    requires { place ≡ entry_of entries.now c.0 }
     ensures { result.0 ≡ title_of entries.now c.0 }
 {
     match place {
-        Place::At(i) => layout::title_at(entries, i),
-        Place::Nowhere => c,
+        Some(i) => layout::title_at(entries, i),
+        None => c,
     }
 }
 
 // What the entries say of that titlecase: what the code point's own says, if they are the same.
 fn title_parts<'a>(
     c: CodePoint,
-    place: Place,
+    place: Option<usize>,
     entries: &[u32],
     pool: &'a [u32],
     presence: &[u64],
     ranks: &[u64],
 ) -> &'a [u32]
     requires findable { Findable (table entries.now pool.now) (pages presence.now ranks.now) }
-    requires place_value { place_found place ≡ entry_of entries.now c.0 }
+    requires place_value { place ≡ entry_of entries.now c.0 }
     ensures { result.now ≡ entry_parts (table entries.now pool.now)
         (title_of entries.now c.0) }
 {
-    let Place::At(i) = place else {
+    let Some(i) = place else {
         return &pool[..0];
     };
     let title = layout::title_at(entries, i);
@@ -195,9 +180,8 @@ fn size_unfolded(
     }
     let mut octets = 0;
     let mut asked: u64 = 1;
-    let mut i = 0;
-    while i < parts.len() {
-        let part = CodePoint(parts[i]);
+    for &number in parts {
+        let part = CodePoint(number);
         let inner = pages::entry_parts(entries, pool, presence, ranks, part);
         // Most parts are whole, and a call costs more than counting one.
         if !decomposes(part, inner) {
@@ -208,7 +192,6 @@ fn size_unfolded(
             octets += sized.octets;
             asked += sized.asks;
         }
-        i += 1;
     }
     Unfolded {
         octets,
@@ -242,9 +225,8 @@ fn write_unfolded(
     }
     let mut at = 0;
     let mut asks: u64 = 1;
-    let mut i = 0;
-    while i < parts.len() {
-        let part = CodePoint(parts[i]);
+    for &number in parts {
+        let part = CodePoint(number);
         let inner = pages::entry_parts(entries, pool, presence, ranks, part);
         // Most parts are whole, and a call costs more than writing one.
         if !decomposes(part, inner) {
@@ -265,7 +247,6 @@ fn write_unfolded(
             at += written.octets;
             asks += written.asks;
         }
-        i += 1;
     }
     Unfolded { octets: at, asks }
 }

@@ -20,10 +20,8 @@ pub fn plain_row(entries: &[u32], pool: &[u32], presence: &[u64], ranks: &[u64])
     ensures { PlainRow (mapping_of (table entries.now pool.now)) result }
 {
     let mut row = [NOT_PLAIN; 256];
-    let mut c: u32 = 0;
-    while c < ASCII_END {
+    for c in 0..ASCII_END {
         row[c as usize] = plain_octet(CodePoint(c), entries, pool, presence, ranks);
-        c += 1;
     }
     row
 }

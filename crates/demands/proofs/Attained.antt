@@ -2,7 +2,7 @@
 -- Assumes nothing.
 use mathlib.Core.Path.{◌≡◌, refl}
 use mathlib.Core.Bool.{false}
-use mathlib.Core.Option.{none, some}
+use Rattle.std.specs.Prelude.{None, Some}
 use lib.ListN.{length}
 use Rattle.terms.specs.Lists.{lowest, each, total}
 use Rattle.utf8.specs.Characters.{characters_after, characters_by}
@@ -24,11 +24,11 @@ widest-syllables : faulty_syllable (mapping_of widest) ≡ false
 unfolding lowest each entry_count number_at syllable entry_of within full largest
 widest-syllables = table-syllables widest 1 1 1 refl refl refl
 
-widest-accepted : table_refusal widest ≡ none
+widest-accepted : table_refusal widest ≡ None
 unfolding lowest each total entry_count whole_entries number_at counts_below not_above syllable form_refusal entry_of within full table_refusal
 widest-accepted = rw widest-syllables
 
-widest-valid : characters widest_text ≡ some widest_characters
+widest-valid : characters widest_text ≡ Some widest_characters
 unfolding leading_ones announced trailed decode characters_after characters_by
 widest-valid = refl
 

@@ -1,13 +1,14 @@
 -- The bulk calls, `prepare_many` and `match_keys`, each sentence of include/mundeziwa.h on them with the theorems that render it.
 -- They take a call by its contract (`ManyCalled`, `Matches`), over any octets, ends, table, rows and slices of any lengths.
 -- Assumes nothing.
+use Rattle.std.specs.Prelude.{Result, Ok, Err}
 use mathlib.Core.Path.{◌≡◌, refl, sym, ap, ap₂, ◌∙◌, subst}
 use Prim.Native.Nat.{Ordering}
 use Prim.Native.Nat.{ℕ, zero, suc, ◌+◌, ◌-◌, ◌≤◌, ◌<◌}
 use native.Mathlib.Omega.{arith}
 use mathlib.Core.Bool.{Bool, true, false, not, cond}
 use mathlib.Core.Logic.{◌↔◌}
-use mathlib.Core.Option.{Option, none, some}
+use Rattle.std.specs.Prelude.{Option, None, Some}
 use mathlib.Core.List.{List, [], ◌∷◌, ◌++◌, map}
 use lib.Dec.{eqb}
 use lib.ListN.{length, take, drop, get_or, length-map, length-append, get_or-append}
@@ -40,19 +41,16 @@ use Rattle.storing.proofs.Ended.{length-ends_from, strings-stand}
 use Rattle.storing.proofs.Room.{store-room}
 use Rattle.many.specs.Many.{ManyCall, texts_of, many_keys, many_valid, texts_checks, rooms_refusal, many_refusal, many_values}
 use Rattle.many.specs.Many.{slices_after}
-use Rattle.many.specs.declared.Batch.{Batch}
-use Rattle.many.specs.declared.Batch.TheVariants.{Prepared, Refused}
+use Rattle.many.specs.Many.{Batch}
 use Rattle.many.proofs.Injective.{batch_outcome-inj}
 use Rattle.many.proofs.Walking.{length-strings, string-at}
 use Rattle.matching.specs.Matching.{KeysCall, both_keys, first_keys, second_keys, in_order, repeated, keys_refusal, matched_values}
 use Rattle.matching.specs.Matching.{rows_after, Matches}
-use Rattle.matching.specs.declared.Matched.{Matched}
-use Rattle.matching.specs.declared.Matched.TheVariants.{Found, Refused as Unmatched}
 use Rattle.matching.proofs.Injective.{matched_outcome-inj}
 use Rattle.matching.proofs.Repeats.{length-repeated}
 use Rattle.partners.specs.declared.Totals.{Totals}
 use Rattle.demands.specs.Bulk.{FirstRule, ManyCalled, many_rules, keys_rules}
-use Rattle.demands.proofs.Partnering.{get_d_map, partner-none, partner-lowest, positions-taken, positions-once}
+use Rattle.demands.proofs.Partnering.{get_d_map, partner-none, partner-lowest, positions-once}
 use Rattle.demands.proofs.Partnering.{positions-bounded, positions-rise, positions-tied}
 use Rattle.demands.proofs.Rules.{many-gives, keys-gives}
 
@@ -60,24 +58,24 @@ use Rattle.demands.proofs.Rules.{many-gives, keys-gives}
 
 module _ {c : ManyCall} {r : Batch} {after : List (List ℕ)} (call : ManyCalled c r after) where
   -- "Refusals 1, 14, 36, 2, 3 to 7, 15, 8": refused with x exactly when x is that of the first rule that applies
-  pub many-refused : (x : Refusal) → (r ≡ Refused x) ↔ FirstRule (many_rules c) x
+  pub many-refused : (x : Refusal) → (r ≡ Err x) ↔ FirstRule (many_rules c) x
   many-refused x = (
     λ e. (many-gives c x).0 (answer-refused (many_refusal c) (many_values c) x (rw e at call.answered)),
-    λ w. batch_outcome-inj r (Refused x) (rw ((many-gives c x).1 w) at call.answered),
+    λ w. batch_outcome-inj r (Err x) (rw ((many-gives c x).1 w) at call.answered),
   )
 
   -- "On a refusal no other lent buffer changes" (demand 1)
-  pub many-kept : (x : Refusal) → r ≡ Refused x → after ≡ c.store ∷ c.key_ends ∷ c.valid ∷ []
+  pub many-kept : (x : Refusal) → r ≡ Err x → after ≡ c.store ∷ c.key_ends ∷ c.valid ∷ []
   many-kept x e = rw (answer-refused (many_refusal c) (many_values c) x (rw e at call.answered)) at call.left
 
 -- ---- many texts: a call that is not refused
 
 module _ {c : ManyCall} {n : ℕ} {store key_ends valid : List ℕ}
-    (call : ManyCalled c (Prepared n) (store ∷ key_ends ∷ valid ∷ [])) where
-  unrefused : many_refusal c ≡ none
+    (call : ManyCalled c (Ok n) (store ∷ key_ends ∷ valid ∷ [])) where
+  unrefused : many_refusal c ≡ None
   unrefused = answer-given (many_refusal c) (many_values c) _ call.answered
 
-  left : store ∷ key_ends ∷ valid ∷ [] ≡ slices_after none c
+  left : store ∷ key_ends ∷ valid ∷ [] ≡ slices_after None c
   left = rw unrefused at call.left
 
   -- "at the start of store the keys of all texts, one after another with nothing between them, also those that are the text
@@ -87,7 +85,7 @@ module _ {c : ManyCall} {n : ℕ} {store key_ends valid : List ℕ}
       let told : gives (n ∷ []) ≡ gives (many_values c) = rw unrefused at call.answered in
       (cc left, cc told)
 
-  passed : (lookup_check c.collation c.table c.pages ≡ none) × (length (joined (many_keys c)) ≤ length c.store)
+  passed : (lookup_check c.collation c.table c.pages ≡ None) × (length (joined (many_keys c)) ≤ length c.store)
   unfolding many_refusal
   passed =
       let rooms = first-none
@@ -107,7 +105,7 @@ module _ {c : ManyCall} {n : ℕ} {store key_ends valid : List ℕ}
             0)),
       )
 
-  module _ (k : Collation) (known : c.collation ≡ some k) where
+  module _ (k : Collation) (known : c.collation ≡ Some k) where
     -- "Prepares many texts, each by itself"
     pub many-keys : many_keys c ≡ map (key_of k (mapping_of c.table)) (texts_of c)
     many-keys = rw known
@@ -160,13 +158,13 @@ module _ {c : ManyCall} {n : ℕ} {store key_ends valid : List ℕ}
 
   -- demand 3: "Every preparation of such a text that reads the table, in a call that isn't refused, gives exactly the key of those
   -- steps"
-  pub many-exact : c.collation ≡ some UnicodeCasemap → (i : ℕ) → i < length c.ends → (chs : List Character)
-      → characters (key_in c.octets c.ends i) ≡ some chs
+  pub many-exact : c.collation ≡ Some UnicodeCasemap → (i : ℕ) → i < length c.ends → (chs : List Character)
+      → characters (key_in c.octets c.ends i) ≡ Some chs
       → StepsGive (mapping_of c.table) chs (get_or (many_keys c) i []) (steps_lookups (mapping_of c.table) chs)
   many-exact known i inside chs e =
       let m = mapping_of c.table in
       let both = rw known at passed.0 in
-      let ok : table_refusal c.table ≡ none = (or_else-neither (table_refusal c.table) _ both).0 in
+      let ok : table_refusal c.table ≡ None = (or_else-neither (table_refusal c.table) _ both).0 in
       let steps : key_of UnicodeCasemap m (key_in c.octets c.ends i) ≡ steps_key m chs =
       ap (λ (o : Option (List Character)). (unicode_prepared m (key_in c.octets c.ends i) o).key) e
       in
@@ -175,15 +173,15 @@ module _ {c : ManyCall} {n : ℕ} {store key_ends valid : List ℕ}
 
 -- ---- keys: refusals
 
-module _ {c : KeysCall} {r : Matched} {after : List (List ℕ)} (call : Matches c r after) where
+module _ {c : KeysCall} {r : Result Totals Refusal} {after : List (List ℕ)} (call : Matches c r after) where
   -- "Refusals 14, 36, 37, 8"
-  pub match-refused : (x : Refusal) → (r ≡ Unmatched x) ↔ FirstRule (keys_rules c) x
+  pub match-refused : (x : Refusal) → (r ≡ Err x) ↔ FirstRule (keys_rules c) x
   match-refused x = (
     λ e. (keys-gives c x).0 (answer-refused (keys_refusal c) (matched_values c) x (rw e at call.answered)),
-    λ w. matched_outcome-inj r (Unmatched x) (rw ((keys-gives c x).1 w) at call.answered),
+    λ w. matched_outcome-inj r (Err x) (rw ((keys-gives c x).1 w) at call.answered),
   )
 
-  pub match-kept : (x : Refusal) → r ≡ Unmatched x → after ≡ c.row ∷ c.repeats ∷ c.partners ∷ []
+  pub match-kept : (x : Refusal) → r ≡ Err x → after ≡ c.row ∷ c.repeats ∷ c.partners ∷ []
   match-kept x e = rw (answer-refused (keys_refusal c) (matched_values c) x (rw e at call.answered)) at call.left
 
 -- ---- keys: a call that is not refused
@@ -210,14 +208,14 @@ repeats-last (k ∷ q ∷ ks) zero h = absurd (omega arith)
 repeats-last (k ∷ q ∷ ks) (suc i) h = repeats-last (q ∷ ks) i (omega arith)
 
 module _ {c : KeysCall} {t : Totals} {row repeats partners : List ℕ}
-    (call : Matches c (Found t) (row ∷ repeats ∷ partners ∷ [])) where
-  matched : keys_refusal c ≡ none
+    (call : Matches c (Ok t) (row ∷ repeats ∷ partners ∷ [])) where
+  matched : keys_refusal c ≡ None
   matched = answer-given (keys_refusal c) (matched_values c) _ call.answered
 
   told : gives (t.equal_pairs ∷ t.partnered ∷ []) ≡ gives (matched_values c)
   told = rw matched at call.answered
 
-  rows : row ∷ repeats ∷ partners ∷ [] ≡ rows_after none c
+  rows : row ∷ repeats ∷ partners ∷ [] ≡ rows_after None c
   rows = rw matched at call.left
 
   -- "equal pairs across the lists": over all pairs, as request 3 has it

@@ -6,10 +6,15 @@
 -- `ensures` under a `requires`, an accepted table: where that holds, so does the theorem. Where a theorem has `call (some k)
 -- ..`, the call's number names the collation k.
 -- Assumes nothing.
+use Rattle.std.specs.declared.cmp.Ordering.TheVariants.{Less, Equal, Greater}
+use Rattle.search.specs.Substring.{Sought}
+use mathlib.Core.Bool.{true}
+use Rattle.std.specs.Prelude.{Ok}
+use Rattle.demands.specs.Demands.{hit_at}
 use mathlib.Core.Path.{◌≡◌, refl}
 use Prim.Native.Nat.{ℕ, ◌≤◌, ◌<◌}
 use mathlib.Core.Logic.{◌⊎◌, ◌↔◌}
-use mathlib.Core.Option.{none, some}
+use Rattle.std.specs.Prelude.{None, Some}
 use mathlib.Core.List.{List, [], ◌∷◌, map}
 use lib.ListN.{length}
 use Rattle.terms.specs.Lists.{there, In}
@@ -32,21 +37,16 @@ use Rattle.keys.proofs.Validity.{key-valid, key-invalid}
 use Rattle.pages.specs.Pages.{Pages}
 use Rattle.prepare.specs.Calls.{Lent, lent, call, Called}
 use Rattle.prepare.specs.Preparing.{shown_key, Prepares}
-use Rattle.prepare.specs.declared.Preparation.{Preparation}
-use Rattle.prepare.specs.declared.Preparation.TheVariants.{Prepared}
+use Rattle.prepare.specs.Preparing.{Preparation}
 use Rattle.prepare.proofs.Answering.{answered-gives}
 use Rattle.compare.specs.Compare.{equality_outcome, order_outcome, equality_values, order_values, OrderSays, EqualSays, flipped}
-use Rattle.compare.specs.declared.Equality.{Equality}
-use Rattle.compare.specs.declared.Equality.TheVariants.{Match}
-use Rattle.compare.specs.declared.Ordered.{Ordered}
-use Rattle.compare.specs.declared.Ordered.TheVariants.{Less, Equal, Greater}
+use Rattle.compare.specs.Compare.{Equality}
+use Rattle.compare.specs.Compare.{Ordered}
 use Rattle.compare.proofs.Says.{says}
 use Rattle.compare.proofs.Preorder.{matches-tie, matches-valid, answers-tie, answers-match, answers-refl, answers-flip}
 use Rattle.compare.proofs.Preorder.{answers-trans, answers-total, answers-valid}
 use Rattle.search.specs.Covering.{Span, span, Covers}
 use Rattle.search.specs.Substring.{substring_outcome, substring_values, sought_values}
-use Rattle.search.specs.declared.Sought.{Sought}
-use Rattle.search.specs.declared.Sought.TheVariants.{Match as Found, NoMatch}
 use Rattle.ucd.specs.Fields.{semicolons, field, code_point}
 use Rattle.ucd.specs.Lines.{Properties, LineSays}
 use Rattle.ucd.proofs.Lines.{line_properties-exactly}
@@ -67,8 +67,8 @@ use Rattle.demands.proofs.TableFaults.{syllable-exactly}
 
 -- keys: what is shown of a prepared text is its key
 pub prepare-key : {k : Collation} {t : Table} {pg : Pages} {l : Lent} {r : Preparation} {after : List ℕ}
-    → Prepares (call (some k) t pg (l ∷ [])) r after
-    → (s : Summary) → r ≡ Prepared s → shown_key r l.text after ≡ key_of k (mapping_of t) l.text
+    → Prepares (call (Some k) t pg (l ∷ [])) r after
+    → (s : Summary) → r ≡ Ok s → shown_key r l.text after ≡ key_of k (mapping_of t) l.text
 prepare-key h s e = shows h e
 
 -- i;octet: the text
@@ -80,40 +80,40 @@ pub key-ascii : (m : Mapping) (t : List ℕ) → key_of AsciiCasemap m t ≡ map
 key-ascii m t = refl
 
 -- i;unicode-casemap, of a text that is UTF-8: over an accepted table the key of the published steps
-pub key-published : (t : Table) → table_refusal t ≡ none → (text : List ℕ) (chs : List Character) → characters text ≡ some chs
+pub key-published : (t : Table) → table_refusal t ≡ None → (text : List ℕ) (chs : List Character) → characters text ≡ Some chs
     → (n : ℕ) × StepsGive (mapping_of t) chs (key_of UnicodeCasemap (mapping_of t) text) n
 key-published t ok text chs valid =
     (steps_lookups (mapping_of t) chs, rw (key-valid (mapping_of t) text chs valid) (accepted-steps t ok chs))
 
 -- over any mapping what computes that key
-pub key-unicode : (m : Mapping) (t : List ℕ) (chs : List Character) → characters t ≡ some chs
+pub key-unicode : (m : Mapping) (t : List ℕ) (chs : List Character) → characters t ≡ Some chs
     → key_of UnicodeCasemap m t ≡ steps_key m chs
 key-unicode = key-valid
 
 -- and the text itself where it is not
-pub key-broken : (m : Mapping) (t : List ℕ) → characters t ≡ none → key_of UnicodeCasemap m t ≡ t
+pub key-broken : (m : Mapping) (t : List ℕ) → characters t ≡ None → key_of UnicodeCasemap m t ≡ t
 key-broken = key-invalid
 
 -- the texts of calls of `equal` and `order`, each prepared by itself, whatever the other is
 module _ {p q : PreparedText} where
   -- equality is equality of keys
-  pub equal-keys : {r : Equality} → EqualSays p q r → (r ≡ Match) ↔ (p.key ≡ q.key)
+  pub equal-keys : {r : Equality} → EqualSays p q r → (r ≡ Ok true) ↔ (p.key ≡ q.key)
   equal-keys = matches-tie
 
   -- order compares keys: less is to precede, octet by octet
-  pub order-less : {r : Ordered} → OrderSays p q r → (r ≡ Less) ↔ Precedes p.key q.key
+  pub order-less : {r : Ordered} → OrderSays p q r → (r ≡ Ok Less) ↔ Precedes p.key q.key
   order-less = less-exactly
 
   -- and greater where the second key precedes the first
-  pub order-greater : {r : Ordered} → OrderSays p q r → (r ≡ Greater) ↔ Precedes q.key p.key
+  pub order-greater : {r : Ordered} → OrderSays p q r → (r ≡ Ok Greater) ↔ Precedes q.key p.key
   order-greater = greater-exactly
 
   -- its ties are exactly the texts with one key
-  pub order-ties : {r : Ordered} → OrderSays p q r → (r ≡ Equal) ↔ (p.key ≡ q.key)
+  pub order-ties : {r : Ordered} → OrderSays p q r → (r ≡ Ok Equal) ↔ (p.key ≡ q.key)
   order-ties = answers-tie
 
   -- which are exactly the equal pairs
-  pub order-equal : {r : Ordered} {x : Equality} → OrderSays p q r → EqualSays p q x → (r ≡ Equal) ↔ (x ≡ Match)
+  pub order-equal : {r : Ordered} {x : Equality} → OrderSays p q r → EqualSays p q x → (r ≡ Ok Equal) ↔ (x ≡ Ok true)
   order-equal = answers-match
 
   -- it turns round with the texts
@@ -121,44 +121,44 @@ module _ {p q : PreparedText} where
   order-turned = answers-flip
 
   -- it is total
-  pub order-total : {r x : Ordered} → OrderSays p q r → OrderSays q p x → (r ≡ Greater → ⊥) ⊎ (x ≡ Greater → ⊥)
+  pub order-total : {r x : Ordered} → OrderSays p q r → OrderSays q p x → (r ≡ Ok Greater → ⊥) ⊎ (x ≡ Ok Greater → ⊥)
   order-total = answers-total
 
 -- it is reflexive
-pub order-reflexive : {p : PreparedText} {r : Ordered} → OrderSays p p r → r ≡ Equal
+pub order-reflexive : {p : PreparedText} {r : Ordered} → OrderSays p p r → r ≡ Ok Equal
 order-reflexive = answers-refl
 
 -- and transitive
 pub order-transitive : {p q s : PreparedText} {r x y : Ordered} → OrderSays p q r → OrderSays q s x → OrderSays p s y
-    → (r ≡ Greater → ⊥) → (x ≡ Greater → ⊥) → y ≡ Greater → ⊥
+    → (r ≡ Ok Greater → ⊥) → (x ≡ Ok Greater → ⊥) → y ≡ Ok Greater → ⊥
 order-transitive = answers-trans
 
 -- of a call of `equal` or `order` on two texts these are the texts prepared, where it is not refused
 pub equal-says : {k : Collation} {t : Table} {pg : Pages} {l m : Lent} {r : Equality} {after : List (List ℕ)}
-    → Called equality_outcome equality_values (call (some k) t pg (l ∷ m ∷ [])) r after → Given (equality_outcome r)
+    → Called equality_outcome equality_values (call (Some k) t pg (l ∷ m ∷ [])) r after → Given (equality_outcome r)
     → EqualSays (prepared k (mapping_of t) l.text) (prepared k (mapping_of t) m.text) r
 equal-says = says
 
 pub order-says : {k : Collation} {t : Table} {pg : Pages} {l m : Lent} {r : Ordered} {after : List (List ℕ)}
-    → Called order_outcome order_values (call (some k) t pg (l ∷ m ∷ [])) r after → Given (order_outcome r)
+    → Called order_outcome order_values (call (Some k) t pg (l ∷ m ∷ [])) r after → Given (order_outcome r)
     → OrderSays (prepared k (mapping_of t) l.text) (prepared k (mapping_of t) m.text) r
 order-says = says
 
 module _ {t : Table} {pg : Pages} {l m : Lent} {after : List (List ℕ)}
     (apart : there (characters l.text) ≡ there (characters m.text) → ⊥) where
   -- under collation 3 a valid and an invalid text never match
-  pub never-match : {r : Equality} → Called equality_outcome equality_values (call (some UnicodeCasemap) t pg (l ∷ m ∷ [])) r after
-      → r ≡ Match → ⊥
+  pub never-match : {r : Equality} → Called equality_outcome equality_values (call (Some UnicodeCasemap) t pg (l ∷ m ∷ [])) r after
+      → r ≡ Ok true → ⊥
   never-match h e = apart (matches-valid (rw e at h))
 
   -- nor tie
-  pub never-tie : {r : Ordered} → Called order_outcome order_values (call (some UnicodeCasemap) t pg (l ∷ m ∷ [])) r after
-      → r ≡ Equal → ⊥
+  pub never-tie : {r : Ordered} → Called order_outcome order_values (call (Some UnicodeCasemap) t pg (l ∷ m ∷ [])) r after
+      → r ≡ Ok Equal → ⊥
   never-tie h e = apart (answers-valid (rw e at h))
 
 -- substring, where it is not refused: the text s of l sought in the text u of n
 module _ {k : Collation} {t : Table} {pg : Pages} {l n : Lent} {r : Sought} {after : List (List ℕ)}
-    (h : Called substring_outcome sought_values (call (some k) t pg (l ∷ n ∷ [])) r after) (answers : Given (substring_outcome r)) where
+    (h : Called substring_outcome sought_values (call (Some k) t pg (l ∷ n ∷ [])) r after) (answers : Given (substring_outcome r)) where
   told : substring_outcome r ≡ gives (substring_values k (mapping_of t) l.text n.text)
   told = go (substring_outcome r) refl answers
     where
@@ -168,7 +168,7 @@ module _ {k : Collation} {t : Table} {pg : Pages} {l n : Lent} {r : Sought} {aft
 
   -- there is no match exactly when the first text's key occurs nowhere in the second's
   pub substring-none : 0 < length l.text
-      → (r ≡ NoMatch) ↔ ((i : ℕ) → OccursAt (key_of k (mapping_of t) l.text) (key_of k (mapping_of t) n.text) i → ⊥)
+      → (r ≡ Ok None) ↔ ((i : ℕ) → OccursAt (key_of k (mapping_of t) l.text) (key_of k (mapping_of t) n.text) i → ⊥)
   substring-none text = none-exactly k (mapping_of t) l.text n.text r text told
 
   -- ---- "A hit reports the first occurrence in the key, and the smallest run of whole characters of the text that covers it
@@ -176,26 +176,26 @@ module _ {k : Collation} {t : Table} {pg : Pages} {l n : Lent} {r : Sought} {aft
 
   -- a hit at these four positions is reported exactly when the first occurrence, with its run, is there
   pub substring-hit : 0 < length l.text → (a b : KeyPosition) (c d : TextPosition)
-      → (r ≡ Found a b c d) ↔ Hit k (mapping_of t) l.text n.text a.0 b.0 c.0 d.0
+      → (r ≡ hit_at a b c d) ↔ Hit k (mapping_of t) l.text n.text a.0 b.0 c.0 d.0
   substring-hit text = match-exactly k (mapping_of t) l.text n.text r text told
 
   -- both pairs are the same under collations 1 and 2, and under 3 where the second text is invalid
-  pub substring-same : 0 < length l.text → (a b : KeyPosition) (c d : TextPosition) → r ≡ Found a b c d
-      → (k ≡ UnicodeCasemap → characters n.text ≡ none) → span c.0 d.0 ≡ span a.0 b.0
+  pub substring-same : 0 < length l.text → (a b : KeyPosition) (c d : TextPosition) → r ≡ hit_at a b c d
+      → (k ≡ UnicodeCasemap → characters n.text ≡ None) → span c.0 d.0 ≡ span a.0 b.0
   substring-same text a b c d e = run-same ((substring-hit text a b c d).0 e)
 
 -- an empty first text is found at 0, 0, 0, 0
 pub substring-empty : {k : Collation} {t : Table} {pg : Pages} {buffer : List ℕ} {n : Lent} {r : Sought} {after : List (List ℕ)}
-    → Called substring_outcome sought_values (call (some k) t pg (lent [] buffer ∷ n ∷ [])) r after → Given (substring_outcome r)
-    → r ≡ Found (record { 0 = 0 }) (record { 0 = 0 }) (record { 0 = 0 }) (record { 0 = 0 })
+    → Called substring_outcome sought_values (call (Some k) t pg (lent [] buffer ∷ n ∷ [])) r after → Given (substring_outcome r)
+    → r ≡ hit_at (record { 0 = 0 }) (record { 0 = 0 }) (record { 0 = 0 }) (record { 0 = 0 })
 substring-empty {k} {t} {n} {r} h answers = match-empty k (mapping_of t) n.text r (told h answers)
 
 -- under collation 3, in a valid text
 module _ {t : Table} {pg : Pages} {l n : Lent} {r : Sought} {after : List (List ℕ)}
-    (h : Called substring_outcome sought_values (call (some UnicodeCasemap) t pg (l ∷ n ∷ [])) r after)
+    (h : Called substring_outcome sought_values (call (Some UnicodeCasemap) t pg (l ∷ n ∷ [])) r after)
     (answers : Given (substring_outcome r))
-    (text : 0 < length l.text) {a b : KeyPosition} {c d : TextPosition} (e : r ≡ Found a b c d)
-    {chs : List Character} (valid : characters n.text ≡ some chs) where
+    (text : 0 < length l.text) {a b : KeyPosition} {c d : TextPosition} (e : r ≡ hit_at a b c d)
+    {chs : List Character} (valid : characters n.text ≡ Some chs) where
   -- the run is one of whole characters, and covers the occurrence
   pub substring-covers : Covers (mapping_of t) chs a.0 b.0 (span c.0 d.0)
   substring-covers = run-covers ((substring-hit h answers text a b c d).0 e) text valid
@@ -235,7 +235,7 @@ module _ {t : Table} {lines accepted : List (List ℕ)} {b : Built} (g : Grows (
       rw (grows-is g) (built-line t lines line p (in-accepted ((line_properties-exactly line p).1 s) g i))
 
   -- and of a code point that no accepted line has in field 0, nothing
-  pub built-nothing-else : (c : ℕ) → ((line : List ℕ) → In line accepted → code_point (field 0 line) ≡ some c → ⊥)
+  pub built-nothing-else : (c : ℕ) → ((line : List ℕ) → In line accepted → code_point (field 0 line) ≡ Some c → ⊥)
       → ((entry_mapping (cut b)).title c ≡ c) × ((entry_mapping (cut b)).parts c ≡ [])
   built-nothing-else c none_has =
       rw (grows-is g)
@@ -243,7 +243,7 @@ module _ {t : Table} {lines accepted : List (List ℕ)} {b : Built} (g : Grows (
       (λ line p a e. none_has line (accepted-in g a) (rw e at ((line_properties-exactly line p).0 a.given).code)))
 
   -- it passes checks 3 to 6
-  pub built-formed : form_refusal (cut b) ≡ none
+  pub built-formed : form_refusal (cut b) ≡ None
   built-formed = rw (grows-is g) (built-form t lines)
 
   -- what it means of a code point that is no syllable is what its entries say

@@ -6,16 +6,15 @@
 -- `ensures` under a `requires`, an accepted table: where that holds, so does the theorem. Where a theorem has `call (some k)
 -- ..`, the call's number names the collation k.
 -- Assumes nothing.
+use Rattle.std.specs.Prelude.{Result, Ok, Err, ⊤}
 use mathlib.Core.Path.{◌≡◌, sym, ap, ◌∙◌}
 use Prim.Native.Nat.{ℕ, ◌*◌, ◌≤◌}
 use native.Mathlib.Omega.{arith}
 use mathlib.Core.Logic.{◌⊎◌, ⊎_map, ◌↔◌}
-use mathlib.Core.Option.{Option, none, some}
+use Rattle.std.specs.Prelude.{Option, None, Some}
 use mathlib.Core.List.{List, [], ◌∷◌}
 use lib.ListN.{length}
 use Rattle.terms.specs.Refusals.{Outcome, refused, Given, check_outcome}
-use Rattle.terms.specs.declared.Check.{Check}
-use Rattle.terms.specs.declared.Check.TheVariants.{Passed}
 use Rattle.terms.specs.declared.Collation.TheVariants.{UnicodeCasemap}
 use Rattle.terms.specs.declared.Refusal.{Refusal}
 use Rattle.terms.proofs.Checks.{or_else-none, answer-given}
@@ -32,8 +31,7 @@ use Rattle.keys.specs.declared.Summary.{Summary}
 use Rattle.pages.specs.Pages.{Pages}
 use Rattle.prepare.specs.Calls.{Lent, Call, call, Called}
 use Rattle.prepare.specs.Preparing.{preparation_outcome, shown_key, Prepares}
-use Rattle.prepare.specs.declared.Preparation.{Preparation}
-use Rattle.prepare.specs.declared.Preparation.TheVariants.{Prepared, Refused as PrepareRefused}
+use Rattle.prepare.specs.Preparing.{Preparation}
 use Rattle.demands.specs.Demands.{Exact, KeyLeft, Short, Bounds, Attained}
 use Rattle.demands.specs.Widest.{widest, widest_text, widest_characters}
 use Rattle.demands.proofs.Preparing.{table-accepted, exact, given-accepted, given-left, eight-accepted, eight-room}
@@ -43,26 +41,26 @@ use Rattle.demands.proofs.Attained.{widest-attains}
 -- ---- "Whatever two slices are handed in as a mapping table, it is accepted *exactly* when it has document 01's form and
 -- every code point in it unfolds completely within 8 levels into at most 32 code points."
 
-module _ (t : Table) {r : Check} (h : check_outcome r ≡ table_answer t) where
+module _ (t : Table) {r : Result ⊤ Refusal} (h : check_outcome r ≡ table_answer t) where
   -- `check_table` answers Passed of exactly the tables that are so
-  pub check-accepts : (r ≡ Passed) ↔ Sound t
+  pub check-accepts : (r ≡ Ok tt) ↔ Sound t
   check-accepts = (
     λ e. (accepted-exactly t).0 (passes e),
-    λ sound. check_outcome-inj r Passed (rw ((accepted-exactly t).1 sound) at h),
+    λ sound. check_outcome-inj r (Ok tt) (rw ((accepted-exactly t).1 sound) at h),
   )
     where
-      passes : r ≡ Passed → table_refusal t ≡ none
+      passes : r ≡ Ok tt → table_refusal t ≡ None
       passes e = answer-given (table_refusal t) [] [] (rw e at h)
 
   -- and in an accepted table every code point at all unfolds so, parts and titlecases too
-  pub check-every : r ≡ Passed → (c : ℕ) → UnfoldsWell (mapping_of t) c
+  pub check-every : r ≡ Ok tt → (c : ℕ) → UnfoldsWell (mapping_of t) c
   check-every e = accepted-level t ((accepted-exactly t).1 (check-accepts.0 e))
 
   -- ---- "Over every accepted table, for every valid text of n code points, the published steps make at most 258 n lookups
   -- and give a key of at most 128 n octets."
 
   -- of any characters, so of every valid text's
-  pub check-bounds : r ≡ Passed → (chs : List Character) → Bounds (mapping_of t) chs
+  pub check-bounds : r ≡ Ok tt → (chs : List Character) → Bounds (mapping_of t) chs
   check-bounds e chs =
       let ok = (accepted-exactly t).1 (check-accepts.0 e) in
       record {
@@ -94,14 +92,14 @@ bounds-attained = widest-attains
 -- steps and, where it is a call of its own, reports exactly as many lookups as they make."
 
 -- a call of its own is `prepare`
-module _ {t : Table} {pg : Pages} {l : Lent} {r : Preparation} {after : List ℕ} (h : Prepares (call (some UnicodeCasemap) t pg (l ∷ [])) r after)
-    {chs : List Character} (valid : characters l.text ≡ some chs) where
+module _ {t : Table} {pg : Pages} {l : Lent} {r : Preparation} {after : List ℕ} (h : Prepares (call (Some UnicodeCasemap) t pg (l ∷ [])) r after)
+    {chs : List Character} (valid : characters l.text ≡ Some chs) where
   -- a valid text that was prepared: its count, its key's length and the key that is shown are those of the published steps
-  pub prepare-exact : (s : Summary) → r ≡ Prepared s → Exact (mapping_of t) chs s (shown_key r l.text after)
+  pub prepare-exact : (s : Summary) → r ≡ Ok s → Exact (mapping_of t) chs s (shown_key r l.text after)
   prepare-exact = exact h valid
 
   -- and so within the bounds, for the table was accepted
-  pub prepare-bounds : (s : Summary) → r ≡ Prepared s → (s.lookups ≤ 258 * length chs) × (s.key_length ≤ 128 * length chs)
+  pub prepare-bounds : (s : Summary) → r ≡ Ok s → (s.lookups ≤ 258 * length chs) × (s.key_length ≤ 128 * length chs)
   prepare-bounds s e =
       let ok = table-accepted h e in
       let is = prepare-exact s e in
@@ -112,14 +110,14 @@ module _ {t : Table} {pg : Pages} {l : Lent} {r : Preparation} {after : List ℕ
 -- values
 module _ {R : Type 0} {outcome : R → Outcome} {values : Call → Option (List ℕ)} {t : Table} {pg : Pages} {l n : Lent} {r : R}
     {one two : List ℕ}
-    (h : Called outcome values (call (some UnicodeCasemap) t pg (l ∷ n ∷ [])) r (one ∷ two ∷ [])) where
+    (h : Called outcome values (call (Some UnicodeCasemap) t pg (l ∷ n ∷ [])) r (one ∷ two ∷ [])) where
   -- not refused, it leaves in each buffer whose text is valid the key of the published steps, over what was there
-  pub compare-exact-first : Given (outcome r) → (chs : List Character) → characters l.text ≡ some chs
+  pub compare-exact-first : Given (outcome r) → (chs : List Character) → characters l.text ≡ Some chs
       → KeyLeft (mapping_of t) chs l.buffer one
   compare-exact-first g chs valid =
       let left : one ≡ _ = heads (given-left h g) in rw left (keyed-left t (given-accepted h g) l chs valid)
 
-  pub compare-exact-second : Given (outcome r) → (chs : List Character) → characters n.text ≡ some chs
+  pub compare-exact-second : Given (outcome r) → (chs : List Character) → characters n.text ≡ Some chs
       → KeyLeft (mapping_of t) chs n.buffer two
   compare-exact-second g chs valid =
       let left : two ≡ _ = seconds (given-left h g) in rw left (keyed-left t (given-accepted h g) n chs valid)
@@ -132,22 +130,22 @@ module _ {R : Type 0} {outcome : R → Outcome} {values : Call → Option (List 
 
   -- and that one's key's length, if the text is valid; the buffer is shorter
   pub compare-short-first : (x : Refusal) → outcome r ≡ refused x → x.number ≡ 8 → x.place ≡ 1
-      → (chs : List Character) → characters l.text ≡ some chs → Short (mapping_of t) chs 1 l.buffer x
+      → (chs : List Character) → characters l.text ≡ Some chs → Short (mapping_of t) chs 1 l.buffer x
   compare-short-first x e eight place chs valid =
       room-short t (eight-accepted h x e eight) l chs valid 1 x
       (at_first t pg l n x (room-places t pg l n x (eight-room h x e eight)) place)
 
   pub compare-short-second : (x : Refusal) → outcome r ≡ refused x → x.number ≡ 8 → x.place ≡ 2
-      → (chs : List Character) → characters n.text ≡ some chs → Short (mapping_of t) chs 2 n.buffer x
+      → (chs : List Character) → characters n.text ≡ Some chs → Short (mapping_of t) chs 2 n.buffer x
   compare-short-second x e eight place chs valid =
       room-short t (eight-accepted h x e eight) n chs valid 2 x
       (at_second t pg l n x (room-places t pg l n x (eight-room h x e eight)) place)
 
 -- the same of `prepare`, whose place is 1
 pub prepare-short : {t : Table} {pg : Pages} {l : Lent} {r : Preparation} {after : List ℕ}
-    → Prepares (call (some UnicodeCasemap) t pg (l ∷ [])) r after
-    → {chs : List Character} → characters l.text ≡ some chs
-    → (x : Refusal) → r ≡ PrepareRefused x → x.number ≡ 8 → Short (mapping_of t) chs 1 l.buffer x
+    → Prepares (call (Some UnicodeCasemap) t pg (l ∷ [])) r after
+    → {chs : List Character} → characters l.text ≡ Some chs
+    → (x : Refusal) → r ≡ Err x → x.number ≡ 8 → Short (mapping_of t) chs 1 l.buffer x
 prepare-short {t} {pg} {l} h {chs} valid x e eight =
     let told = ap preparation_outcome e in
     room-short t (eight-accepted h.call x told eight) l chs valid 1 x

@@ -5,7 +5,7 @@ use mathlib.Core.Path.{◌≡◌, refl, sym, ap, ◌∙◌, subst}
 use Prim.Native.Nat.{ℕ, suc}
 use mathlib.Core.Bool.{Bool, true, false, not, true≢false}
 use mathlib.Core.Logic.{◌⊎◌, inl, inr, ◌↔◌}
-use mathlib.Core.Option.{Option, none, some}
+use Rattle.std.specs.Prelude.{Option, None, Some}
 use mathlib.Core.List.{List, [], ◌∷◌, ◌++◌}
 use lib.Dec.{eqb}
 use lib.ListN.{take, drop}
@@ -22,11 +22,11 @@ use Rattle.demands.specs.Faults.{Fault, fault, plain, Clear, FirstFault}
 
 -- a check gives its fault's number, with place 0, exactly when the fault applies, with that detail
 pub record Renders (c : Option Refusal) (f : Fault) : Type 0 where
-  pub numbered : (x : Refusal) → c ≡ some x → x ≡ refusal f.number 0 x.detail
-  pub exactly : (d : ℕ) → (c ≡ some (refusal f.number 0 d)) ↔ f.applies d
+  pub numbered : (x : Refusal) → c ≡ Some x → x ≡ refusal f.number 0 x.detail
+  pub exactly : (d : ℕ) → (c ≡ Some (refusal f.number 0 d)) ↔ f.applies d
 
 -- what a refusal is
-pub some_same : (x y : Refusal) → some x ≡ some y → x ≡ y
+pub some_same : (x y : Refusal) → Some x ≡ Some y → x ≡ y
 some_same x y e = cc
 
 detail-of : {n m d e : ℕ} → refusal n 0 d ≡ refusal m 0 e → d ≡ e
@@ -52,16 +52,16 @@ pub renders-plain : (b : Bool) (n : ℕ) {A : Type 0} → (b ≡ true) ↔ A →
 renders-plain b n h = renders-check b n 0 h
 
 -- a check by where a fault was found, which is its detail
-pub renders-at : (n : ℕ) (o : Option ℕ) {at : ℕ → Type 0} → ((i : ℕ) → (o ≡ some i) ↔ at i) → Renders (refused_at n o) (fault n at)
-renders-at n none h = record {
+pub renders-at : (n : ℕ) (o : Option ℕ) {at : ℕ → Type 0} → ((i : ℕ) → (o ≡ Some i) ↔ at i) → Renders (refused_at n o) (fault n at)
+renders-at n None h = record {
   numbered = λ x e. absurd (none-some x e);
   exactly = λ d. (λ e. absurd (none-some _ e), λ p. absurd (none-some d ((h d).1 p)));
 }
-renders-at n (some i) h = record {
+renders-at n (Some i) h = record {
   numbered = λ x e. let is = some_same (refusal n 0 i) x e in rw (← is);
   exactly = λ d. (
-    λ e. (h d).0 (ap some (detail-of (some_same (refusal n 0 i) (refusal n 0 d) e))),
-    λ p. let is : some i ≡ some d = (h d).1 p in cc,
+    λ e. (h d).0 (ap Some (detail-of (some_same (refusal n 0 i) (refusal n 0 d) e))),
+    λ p. let is : Some i ≡ Some d = (h d).1 p in cc,
   );
 }
 
@@ -83,31 +83,31 @@ renders-append (c ∷ cs) [] ds gs r s = absurd r
 renders-append (c ∷ cs) (f ∷ fs) ds gs r s = (r.0, renders-append cs fs ds gs r.1 s)
 
 -- a check that gives nothing renders a fault that does not apply
-unapplied : (f : Fault) → Renders none f → (d : ℕ) → f.applies d → ⊥
+unapplied : (f : Fault) → Renders None f → (d : ℕ) → f.applies d → ⊥
 unapplied f r d a = none-some _ ((r.exactly d).1 a)
 
 -- and one that gives something a fault that does
-applied : (f : Fault) (x : Refusal) → Renders (some x) f → f.applies x.detail
-applied f x r = (r.exactly x.detail).0 (ap some (r.numbered x refl))
+applied : (f : Fault) (x : Refusal) → Renders (Some x) f → f.applies x.detail
+applied f x r = (r.exactly x.detail).0 (ap Some (r.numbered x refl))
 
 -- the first that applies is given
 pub row-exactly : (cs : List (Option Refusal)) (fs : List Fault) → RendersEach cs fs
-    → (n d : ℕ) → (first cs ≡ some (refusal n 0 d)) ↔ FirstFault fs n d
+    → (n d : ℕ) → (first cs ≡ Some (refusal n 0 d)) ↔ FirstFault fs n d
 row-exactly [] [] r n d = (λ e. none-some _ e, λ h. absurd h)
 row-exactly [] (f ∷ fs) r n d = absurd r
 row-exactly (c ∷ cs) [] r n d = absurd r
-row-exactly (none ∷ cs) (f ∷ fs) r n d =
+row-exactly (None ∷ cs) (f ∷ fs) r n d =
     let later = row-exactly cs fs r.1 n d in
     (λ e. inr (unapplied f r.0, later.0 e), given later)
   where
-    given : (first cs ≡ some (refusal n 0 d)) ↔ FirstFault fs n d
+    given : (first cs ≡ Some (refusal n 0 d)) ↔ FirstFault fs n d
         → ((f.number ≡ n) × f.applies d) ⊎ (((e : ℕ) → f.applies e → ⊥) × FirstFault fs n d)
-        → first cs ≡ some (refusal n 0 d)
+        → first cs ≡ Some (refusal n 0 d)
     given later (inl h) = absurd (unapplied f r.0 d h.1)
     given later (inr h) = later.1 h.1
-row-exactly (some x ∷ cs) (f ∷ fs) r n d = (found, given)
+row-exactly (Some x ∷ cs) (f ∷ fs) r n d = (found, given)
   where
-    found : some x ≡ some (refusal n 0 d) → ((f.number ≡ n) × f.applies d) ⊎ (((e : ℕ) → f.applies e → ⊥) × FirstFault fs n d)
+    found : Some x ≡ Some (refusal n 0 d) → ((f.number ≡ n) × f.applies d) ⊎ (((e : ℕ) → f.applies e → ⊥) × FirstFault fs n d)
     found e =
         let is = some_same x (refusal n 0 d) e in
         let told = r.0.numbered x refl in
@@ -116,18 +116,18 @@ row-exactly (some x ∷ cs) (f ∷ fs) r n d = (found, given)
           rw (ap (λ (y : Refusal). y.detail) is) at (applied f x r.0),
         )
 
-    given : ((f.number ≡ n) × f.applies d) ⊎ (((e : ℕ) → f.applies e → ⊥) × FirstFault fs n d) → some x ≡ some (refusal n 0 d)
+    given : ((f.number ≡ n) × f.applies d) ⊎ (((e : ℕ) → f.applies e → ⊥) × FirstFault fs n d) → Some x ≡ Some (refusal n 0 d)
     given (inl h) = (r.0.exactly d).1 h.1 ∙ rw h.0
     given (inr h) = absurd (h.0 x.detail (applied f x r.0))
 
 -- nothing is given exactly when none applies
-pub row-clear : (cs : List (Option Refusal)) (fs : List Fault) → RendersEach cs fs → (first cs ≡ none) ↔ Clear fs
+pub row-clear : (cs : List (Option Refusal)) (fs : List Fault) → RendersEach cs fs → (first cs ≡ None) ↔ Clear fs
 row-clear [] [] r = (λ e. tt, λ h. refl)
 row-clear [] (f ∷ fs) r = absurd r
 row-clear (c ∷ cs) [] r = absurd r
-row-clear (none ∷ cs) (f ∷ fs) r =
+row-clear (None ∷ cs) (f ∷ fs) r =
     let later = row-clear cs fs r.1 in (λ e. (unapplied f r.0, later.0 e), λ h. later.1 h.1)
-row-clear (some x ∷ cs) (f ∷ fs) r = (
+row-clear (Some x ∷ cs) (f ∷ fs) r = (
   λ e. absurd (none-some x (sym e)),
   λ h. absurd (h.0 x.detail (applied f x r.0)),
 )

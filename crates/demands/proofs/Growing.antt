@@ -1,9 +1,10 @@
 -- A table that calls of `add_line` have grown is the one that the builder's definition gives for the lines, and the lines
 -- that a call answered Taken are those that the definition accepts.
 -- Assumes nothing.
+use Rattle.std.specs.Prelude.{Ok, Err}
 use mathlib.Core.Path.{◌≡◌, refl, sym, ap, ◌∙◌}
 use Prim.Native.Nat.{ℕ}
-use mathlib.Core.Option.{none, some}
+use Rattle.std.specs.Prelude.{None, Some}
 use mathlib.Core.List.{List, [], ◌∷◌, ◌++◌}
 use native.Mathlib.Omega.{arith}
 use Rattle.terms.specs.Lists.{In}
@@ -16,7 +17,6 @@ use Rattle.ucd.proofs.Lines.{line_properties-exactly, semicolons-read}
 use Rattle.builder.specs.Builder.{Built, line_refusal, accepted, add_line, add_lines, state_numbers, Added}
 use Rattle.builder.specs.Built.{Accepted, accepted_of}
 use Rattle.builder.specs.declared.LineState.{LineState}
-use Rattle.builder.specs.declared.Line.TheVariants.{Taken, Refused}
 use Rattle.builder.proofs.Refusals.{unrefused-reading, unrefused-given}
 use Rattle.demands.specs.Demands.{Grows, no_call, taken, not_taken, SayEach, no_line, one_line}
 
@@ -31,11 +31,11 @@ grows-is (not_taken {lines = lines} added rest) = grows-is rest ∙ ap (λ (x : 
 
 module _ {b : Built} {line es pool : List ℕ} {st : LineState} where
   -- a line that was taken is refused by nothing
-  pub taken-unrefused : Added b line (Taken st) es pool → line_refusal b line ≡ none
+  pub taken-unrefused : Added b line (Ok st) es pool → line_refusal b line ≡ None
   taken-unrefused h = answer-given (line_refusal b line) (state_numbers (add_line b line).state) (state_numbers st) h.answered
 
   -- one that was not is refused
-  not-taken-refused : {x : Refusal} → Added b line (Refused x st) es pool → line_refusal b line ≡ some x
+  not-taken-refused : {x : Refusal} → Added b line (Err (record { refusal = x; state = st })) es pool → line_refusal b line ≡ Some x
   not-taken-refused {x} h = answer-refused (line_refusal b line) (state_numbers (add_line b line).state) x h.answered
 
 -- ---- the lines that were taken
@@ -47,10 +47,10 @@ grows-says no_call = no_line
 grows-says (taken {b = b} {line = line} {lines = lines} added rest) =
     let passed = taken-unrefused added in
     let said = unrefused-given b line passed in
-    let is : accepted b line ≡ some said.0 = rw passed said.1 in
+    let is : accepted b line ≡ Some said.0 = rw passed said.1 in
     rw (is, ← added.left) (one_line ((line_properties-exactly line said.0).0 said.1) (grows-says rest))
 grows-says (not_taken {b = b} {line = line} added rest) =
-    let is : accepted b line ≡ none = rw (not-taken-refused added) in rw (is, ← added.left) (grows-says rest)
+    let is : accepted b line ≡ None = rw (not-taken-refused added) in rw (is, ← added.left) (grows-says rest)
 
 -- ---- between the two ways to say accepted
 
@@ -72,7 +72,7 @@ later {first = first} e a = record {
   given = a.given;
 }
 
-module _ {line : List ℕ} {p : Properties} (said : line_properties line ≡ some p) where
+module _ {line : List ℕ} {p : Properties} (said : line_properties line ≡ Some p) where
   -- a line that was taken is accepted by the definition
   taken-accepted : {b c : Built} {lines taking : List (List ℕ)} → Grows b lines taking c
       → (before after : List (List ℕ)) → taking ≡ before ++ line ∷ after → Accepted b lines line p
@@ -101,7 +101,7 @@ in-later {first = first} i =
 
 -- a line that the definition accepts was taken
 accepted-taken : {line : List ℕ} {b c : Built} {lines taking : List (List ℕ)} → Grows b lines taking c
-    → (before after : List (List ℕ)) → lines ≡ before ++ line ∷ after → line_refusal (add_lines b before) line ≡ none
+    → (before after : List (List ℕ)) → lines ≡ before ++ line ∷ after → line_refusal (add_lines b before) line ≡ None
     → In line taking
 unfolding add_lines
 accepted-taken {line = line} no_call before after e u = absurd (not-empty before line after e)
@@ -123,7 +123,7 @@ accepted-in g a = accepted-taken g a.before a.after a.split a.unrefused
 module _ (line : List ℕ) where
   -- a call on it was answered Taken: nothing refused it there
   unrefused-somewhere : {b c : Built} {lines taking : List (List ℕ)} → Grows b lines taking c
-      → (before after : List (List ℕ)) → taking ≡ before ++ line ∷ after → (d : Built) × (line_refusal d line ≡ none)
+      → (before after : List (List ℕ)) → taking ≡ before ++ line ∷ after → (d : Built) × (line_refusal d line ≡ None)
   unrefused-somewhere no_call before after e = absurd (not-empty before line after e)
   unrefused-somewhere (taken {b = b} {line = first} added rest) [] after e =
       let is : first ≡ line = cc in (b, rw is at (taken-unrefused added))

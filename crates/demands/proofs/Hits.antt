@@ -1,11 +1,14 @@
 -- What `substring` answers where it is not refused, in the words of demand 2: a hit is the first occurrence in the key with its
 -- run, and there is no match where there is no occurrence.
 -- Assumes nothing.
+use Rattle.search.specs.Substring.{Sought}
+use Rattle.std.specs.Prelude.{Ok}
+use Rattle.demands.specs.Demands.{hit_at}
 use mathlib.Core.Path.{◌≡◌, refl, sym, ap, ◌∙◌}
 use Prim.Native.Nat.{ℕ, ◌+◌, ◌≤◌, ◌<◌}
 use native.Mathlib.Omega.{arith}
 use mathlib.Core.Logic.{◌↔◌}
-use mathlib.Core.Option.{Option, none, some}
+use Rattle.std.specs.Prelude.{Option, None, Some}
 use mathlib.Core.List.{List, [], ◌∷◌}
 use lib.ListN.{length}
 use Rattle.terms.specs.Refusals.{gives}
@@ -22,8 +25,6 @@ use Rattle.occurrence.specs.Occurrence.{occurrence}
 use Rattle.occurrence.proofs.Laws.{occurrence-some, occurrence-none, occurrence-is, occurrence-nowhere}
 use Rattle.search.specs.Covering.{Span, span, covering, Covers}
 use Rattle.search.specs.Substring.{substring_outcome, run_in, text_run, found_values, substring_values}
-use Rattle.search.specs.declared.Sought.{Sought}
-use Rattle.search.specs.declared.Sought.TheVariants.{Match, NoMatch}
 use Rattle.search.proofs.Injective.{substring_outcome-inj}
 use Rattle.search.proofs.Seeking.{key-some}
 use Rattle.search.proofs.Cover.{hit-covers, hit-least}
@@ -52,13 +53,13 @@ module _ (k : Collation) (m : Mapping) (s t : List ℕ) (r : Sought) (text : 0 <
   told o f = e ∙ ap gives (values-some k m s t text ∙ ap (found_values k m t (length needle)) f)
 
   -- a hit with its four numbers is the first occurrence
-  hit-is : (a b : KeyPosition) (c d : TextPosition) → r ≡ Match a b c d → Hit k m s t a.0 b.0 c.0 d.0
+  hit-is : (a b : KeyPosition) (c d : TextPosition) → r ≡ hit_at a b c d → Hit k m s t a.0 b.0 c.0 d.0
   hit-is a b c d q = go (occurrence needle hay) refl
     where
       go : (o : Option ℕ) → occurrence needle hay ≡ o → Hit k m s t a.0 b.0 c.0 d.0
-      go none f = let z : ◌≡◌ {A = ℕ} 1 2 = cc (rw q at (told none f)) in absurd (omega arith)
-      go (some i) f =
-          let same = rw q at (told (some i) f) in
+      go None f = let z : ◌≡◌ {A = ℕ} 1 2 = cc (rw q at (told None f)) in absurd (omega arith)
+      go (Some i) f =
+          let same = rw q at (told (Some i) f) in
           let found = occurrence-some needle hay i f in
           let part : Span = span i (i + length needle) in
           let from : i ≡ a.0 = cc in
@@ -75,32 +76,32 @@ module _ (k : Collation) (m : Mapping) (s t : List ℕ) (r : Sought) (text : 0 <
           }
 
   -- and the first occurrence is that hit
-  is-hit : (a b : KeyPosition) (c d : TextPosition) → Hit k m s t a.0 b.0 c.0 d.0 → r ≡ Match a b c d
+  is-hit : (a b : KeyPosition) (c d : TextPosition) → Hit k m s t a.0 b.0 c.0 d.0 → r ≡ hit_at a b c d
   is-hit a b c d h =
       let found = occurrence-is needle hay a.0 h.occurs h.nowhere-lower in
-      let same = rw (sym h.upto) at (told (some a.0) found) in
+      let same = rw (sym h.upto) at (told (Some a.0) found) in
       let start : c.0 ≡ (text_run k m t (span a.0 b.0)).start = ap (λ (x : Span). x.start) h.run in
       let end : d.0 ≡ (text_run k m t (span a.0 b.0)).end = ap (λ (x : Span). x.end) h.run in
-      substring_outcome-inj r (Match a b c d) (cc)
+      substring_outcome-inj r (hit_at a b c d) (cc)
 
   -- a hit is the first occurrence, with its run
-  pub match-exactly : (a b : KeyPosition) (c d : TextPosition) → (r ≡ Match a b c d) ↔ Hit k m s t a.0 b.0 c.0 d.0
+  pub match-exactly : (a b : KeyPosition) (c d : TextPosition) → (r ≡ hit_at a b c d) ↔ Hit k m s t a.0 b.0 c.0 d.0
   match-exactly a b c d = (hit-is a b c d, is-hit a b c d)
 
   -- there is no match where the key occurs nowhere
-  pub none-exactly : (r ≡ NoMatch) ↔ ((i : ℕ) → OccursAt (key_of k m s) (key_of k m t) i → ⊥)
+  pub none-exactly : (r ≡ Ok None) ↔ ((i : ℕ) → OccursAt (key_of k m s) (key_of k m t) i → ⊥)
   none-exactly = (
     λ q. go q (occurrence needle hay) refl,
-    λ nowhere. substring_outcome-inj r NoMatch (told none (occurrence-nowhere needle hay nowhere)),
+    λ nowhere. substring_outcome-inj r (Ok None) (told None (occurrence-nowhere needle hay nowhere)),
   )
     where
-      go : r ≡ NoMatch → (o : Option ℕ) → occurrence needle hay ≡ o → (i : ℕ) → OccursAt needle hay i → ⊥
-      go q none f = occurrence-none needle hay f
-      go q (some i) f = let z : ◌≡◌ {A = ℕ} 1 2 = cc (rw q at (told (some i) f)) in absurd (omega arith)
+      go : r ≡ Ok None → (o : Option ℕ) → occurrence needle hay ≡ o → (i : ℕ) → OccursAt needle hay i → ⊥
+      go q None f = occurrence-none needle hay f
+      go q (Some i) f = let z : ◌≡◌ {A = ℕ} 1 2 = cc (rw q at (told (Some i) f)) in absurd (omega arith)
 
 -- an empty text is found at 0, 0, 0, 0
 pub match-empty : (k : Collation) (m : Mapping) (t : List ℕ) (r : Sought) → substring_outcome r ≡ gives (substring_values k m [] t)
-    → r ≡ Match (record { 0 = 0 }) (record { 0 = 0 }) (record { 0 = 0 }) (record { 0 = 0 })
+    → r ≡ hit_at (record { 0 = 0 }) (record { 0 = 0 }) (record { 0 = 0 }) (record { 0 = 0 })
 unfolding substring_values
 match-empty k m t r e = substring_outcome-inj r _ e
 
@@ -108,17 +109,17 @@ match-empty k m t r e = substring_outcome-inj r _ e
 
 module _ {k : Collation} {m : Mapping} {s t : List ℕ} {a b c d : ℕ} (h : Hit k m s t a b c d) where
   -- it is the part of the key under collations 1 and 2, and under 3 where the second text is invalid
-  pub run-same : (k ≡ UnicodeCasemap → characters t ≡ none) → span c d ≡ span a b
+  pub run-same : (k ≡ UnicodeCasemap → characters t ≡ None) → span c d ≡ span a b
   run-same octets = h.run ∙ go k octets
     where
-      go : (j : Collation) → (j ≡ UnicodeCasemap → characters t ≡ none) → text_run j m t (span a b) ≡ span a b
+      go : (j : Collation) → (j ≡ UnicodeCasemap → characters t ≡ None) → text_run j m t (span a b) ≡ span a b
       go Octet o = refl
       go AsciiCasemap o = refl
       go UnicodeCasemap o = ap (λ (x : Option (List Character)). run_in m x (span a b)) (o refl)
 
 module _ {m : Mapping} {s t : List ℕ} {a b c d : ℕ} (h : Hit UnicodeCasemap m s t a b c d)
-    (text : 0 < length s) {chs : List Character} (valid : characters t ≡ some chs) where
-  found : occurrence (key_of UnicodeCasemap m s) (steps_key m chs) ≡ some a
+    (text : 0 < length s) {chs : List Character} (valid : characters t ≡ Some chs) where
+  found : occurrence (key_of UnicodeCasemap m s) (steps_key m chs) ≡ Some a
   found =
       rw (key-valid m t chs valid) at
       (occurrence-is (key_of UnicodeCasemap m s) (key_of UnicodeCasemap m t) a h.occurs h.nowhere-lower)

@@ -6,7 +6,7 @@ use native.Mathlib.Omega.{arith}
 use native.Mathlib.Decide.{ℕ_discrete}
 use mathlib.Core.Bool.{Bool, true, not, ◌&&◌, ◌||◌, true≢false}
 use mathlib.Core.Logic.{◌⊎◌, inl, inr, ◌↔◌}
-use mathlib.Core.Option.{none, some}
+use Rattle.std.specs.Prelude.{None, Some}
 use lib.Dec.{leb, eqb}
 use lib.ListN.{length}
 use borrow.Author.Tests.{ne_eqb}
@@ -28,7 +28,7 @@ Unread k = (k ≡ 1) ⊎ (k ≡ 2)
 
 -- a number names a collation, of which it says whether it reads the table
 pub record Named (k : ℕ) (c : Collation) : Type 0 where
-  pub names : collation_of k ≡ some c
+  pub names : collation_of k ≡ Some c
   pub unread : (not (reads_table c) ≡ true) ↔ Unread k
 
 named : (k : ℕ) → CollationNumber k → (c : Collation) × Named k c
@@ -96,7 +96,7 @@ agrees-exactly f n = go (collation-number f.collation)
     Wrong : Type 0
     Wrong = (CollationNumber f.collation → ⊥) ⊎ WrongFlag f ⊎ WrongLength f n
 
-    unknown-is : (CollationNumber f.collation → ⊥) → collation_of f.collation ≡ none
+    unknown-is : (CollationNumber f.collation → ⊥) → collation_of f.collation ≡ None
     unknown-is h =
         rw (
           ne_eqb f.collation 1 (λ e. h (inl e)),

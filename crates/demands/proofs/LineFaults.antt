@@ -5,7 +5,7 @@ use Prim.Native.Nat.{ℕ, ◌+◌}
 use native.Mathlib.Omega.{arith}
 use mathlib.Core.Bool.{Bool, true, false, not, ◌&&◌, ◌||◌}
 use mathlib.Core.Logic.{◌↔◌}
-use mathlib.Core.Option.{Option, none, some}
+use Rattle.std.specs.Prelude.{Option, None, Some}
 use mathlib.Core.List.{List, [], ◌∷◌, ◌++◌}
 use lib.Dec.{leb, ltb, eqb}
 use lib.ListN.{length}
@@ -141,8 +141,8 @@ barred-said line p s =
 
 -- a check of what a line gives, if it gives something
 abbrev over-given : (Properties → Bool) → ℕ → Option Properties → Option Refusal
-over-given test n none = none
-over-given test n (some p) = line_check (test p) n
+over-given test n None = None
+over-given test n (Some p) = line_check (test p) n
 
 -- it renders a fault of what the line says
 given-renders : (line : List ℕ) (test : Properties → Bool) (n : ℕ) {A : Type 0}
@@ -152,19 +152,19 @@ given-renders : (line : List ℕ) (test : Properties → Bool) (n : ℕ) {A : Ty
 given-renders line test n {A} holds back = go (line_properties line) refl
   where
     go : (o : Option Properties) → line_properties line ≡ o → Renders (over-given test n o) (plain n A)
-    go none e = record {
+    go None e = record {
       numbered = λ x q. absurd (none-some x q);
       exactly = λ d. (
         λ q. absurd (none-some _ q),
         λ a. (let b = back a.1 in absurd (none-some b.0 (sym e ∙ (line_properties-exactly line b.0).1 b.1))),
       );
     }
-    go (some p) e =
+    go (Some p) e =
         renders-plain (test p) n (
           λ q. holds p ((line_properties-exactly line p).0 e) q,
           λ a.
               (let b = back a in
-              let same : some b.0 ≡ some p = sym ((line_properties-exactly line b.0).1 b.1) ∙ e in
+              let same : Some b.0 ≡ Some p = sym ((line_properties-exactly line b.0).1 b.1) ∙ e in
               let is : b.0 ≡ p = cc in
               rw is at b.2),
         )
@@ -185,8 +185,8 @@ module _ (b : Built) (line : List ℕ) where
       ∷ []
 
   first-given : (o : Option Properties) → first (given_checks b.state n m o) ≡ first (given-row o)
-  first-given none = refl
-  first-given (some p) = refl
+  first-given None = refl
+  first-given (Some p) = refl
 
   barred-renders : Renders (over-given barred 25 (line_properties line)) (plain 25 (SaysBarred line))
   barred-renders =
@@ -250,9 +250,9 @@ module _ (b : Built) (line : List ℕ) where
       (sym (first-append head (given-row (line_properties line))))
 
   -- a line's refusal is the first of 28, 20 to 23, 29, 24 to 27 that applies
-  pub line_row : (k d : ℕ) → (line_refusal b line ≡ some (refusal k 0 d)) ↔ FirstFault (line_faults b line) k d
+  pub line_row : (k d : ℕ) → (line_refusal b line ≡ Some (refusal k 0 d)) ↔ FirstFault (line_faults b line) k d
   line_row k d = rw row-refusal (row-exactly row (line_faults b line) row-renders k d)
 
   -- and it has none exactly when none applies
-  pub line_clear : (line_refusal b line ≡ none) ↔ Clear (line_faults b line)
+  pub line_clear : (line_refusal b line ≡ None) ↔ Clear (line_faults b line)
   line_clear = rw row-refusal (row-clear row (line_faults b line) row-renders)

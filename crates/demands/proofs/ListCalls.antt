@@ -5,7 +5,7 @@ use Prim.Native.Nat.{ℕ, ◌≤◌, ◌<◌}
 use native.Mathlib.Omega.{arith}
 use mathlib.Core.Bool.{Bool, true, false}
 use mathlib.Core.Logic.{◌⊎◌, inl, inr}
-use mathlib.Core.Option.{Option, none, some}
+use Rattle.std.specs.Prelude.{Option, None, Some}
 use mathlib.Core.List.{List}
 use lib.Dec.{ltb}
 use lib.ListN.{length}
@@ -28,21 +28,21 @@ use Rattle.demands.specs.Lists.{second-14, number-3-to-7, number-15, store-8, ar
 use Rattle.demands.proofs.Numbers.{short-exactly}
 use Rattle.demands.proofs.ListFaults.{names-are, faulty-is, names-there, faulty-there}
 
-some_same : {x y : Refusal} → some x ≡ some y → x ≡ y
+some_same : {x y : Refusal} → Some x ≡ Some y → x ≡ y
 some_same e = cc
 
 module _ (c : ListsCall) where
   -- ---- in words, from the checks
 
   listed : {ts us : List (List ℕ)} → Listed c ts us
-      → (list_fault c.first_list ≡ none) × (list_fault c.second_list ≡ none) × (length (names_in c.first_list) ≤ 1024)
+      → (list_fault c.first_list ≡ None) × (list_fault c.second_list ≡ None) × (length (names_in c.first_list) ≤ 1024)
       × (length (names_in c.second_list) ≤ 1024) × (names_in c.first_list ≡ ts)
   listed l =
       let a = names-are l.first (omega arith) in
       let b = names-are l.second (omega arith) in
       (a.1, b.1, omega (arith, ap length a.0, l.first_most), omega (arith, ap length b.0, l.second_most), a.0)
 
-  passes : {ts us : List (List ℕ)} → Listed c ts us → none ≡ first (names_checks c.collation c.first_list c.second_list)
+  passes : {ts us : List (List ℕ)} → Listed c ts us → None ≡ first (names_checks c.collation c.first_list c.second_list)
   passes l =
       let f = listed l in
       rw (
@@ -54,7 +54,7 @@ module _ (c : ListsCall) where
       ) refl
 
   -- the words give the refusal
-  pub refused-words : (x : Refusal) → ListsRefused c x → lists_refusal c ≡ some x
+  pub refused-words : (x : Refusal) → ListsRefused c x → lists_refusal c ≡ Some x
   unfolding lists_refusal
   refused-words x (number-1 e) = rw e
   refused-words x (first-11-to-13 k y e f) = rw (e, faulty-is f (omega arith))
@@ -92,13 +92,13 @@ module _ (c : ListsCall) where
       ∙ rw (le-ltb (length c.store) (length (all_keys c)) s, names) (short a)
     where
       short : (length c.partners < length ts) ⊎ (length c.positions < length ts)
-          → or_else (arrays_check (length c.partners) (length c.positions) (length ts)) none ≡ some (refusal 8 0
+          → or_else (arrays_check (length c.partners) (length c.positions) (length ts)) None ≡ Some (refusal 8 0
           (length ts))
       short (inl h) = rw (lt-ltb (length c.partners) (length ts) h)
       short (inr h) = go (ltb (length c.partners) (length ts)) refl
         where
           go : (b : Bool) → ltb (length c.partners) (length ts) ≡ b
-              → or_else (arrays_check (length c.partners) (length c.positions) (length ts)) none ≡ some (refusal 8 0
+              → or_else (arrays_check (length c.partners) (length c.positions) (length ts)) None ≡ Some (refusal 8 0
               (length ts))
           go true e = rw e
           go false e = rw (e, lt-ltb (length c.positions) (length ts) h)
@@ -107,10 +107,10 @@ module _ (c : ListsCall) where
 
   abbrev Decided : Type 0
   Decided =
-      ((lists_refusal c ≡ none) × Listed c (names_in c.first_list) (names_in c.second_list)) ⊎ ((x : Refusal) × ListsRefused c x)
+      ((lists_refusal c ≡ None) × Listed c (names_in c.first_list) (names_in c.second_list)) ⊎ ((x : Refusal) × ListsRefused c x)
 
   module _ (l : Listed c (names_in c.first_list) (names_in c.second_list)) where
-    arrays-decided : lookup_check c.collation c.table c.pages ≡ none → length (all_keys c) ≤ length c.store
+    arrays-decided : lookup_check c.collation c.table c.pages ≡ None → length (all_keys c) ≤ length c.store
         → (a b : Bool)
         → ltb (length c.partners) (length (names_in c.first_list)) ≡ a
         → ltb (length c.positions) (length (names_in c.first_list)) ≡ b
@@ -128,7 +128,7 @@ module _ (c : ListsCall) where
     arrays-decided t s false false e f =
         inl (refused-rooms c (passes l) t ∙ rw (le-ltb (length c.store) (length (all_keys c)) s, e, f), l)
 
-    store-decided : lookup_check c.collation c.table c.pages ≡ none → (b : Bool) → ltb (length c.store) (length
+    store-decided : lookup_check c.collation c.table c.pages ≡ None → (b : Bool) → ltb (length c.store) (length
         (all_keys c)) ≡ b → Decided
     store-decided t true e =
         inr
@@ -141,20 +141,20 @@ module _ (c : ListsCall) where
         refl
 
     -- only collation 3 reads the table and the pages
-    reads : (k : Collation) → c.collation ≡ some k → (x : Refusal) → lookup_check c.collation c.table c.pages ≡ some x
-        → (c.collation ≡ some UnicodeCasemap)
-        × (or_else (table_refusal c.table) (pages_under UnicodeCasemap c.pages) ≡ some x)
+    reads : (k : Collation) → c.collation ≡ Some k → (x : Refusal) → lookup_check c.collation c.table c.pages ≡ Some x
+        → (c.collation ≡ Some UnicodeCasemap)
+        × (or_else (table_refusal c.table) (pages_under UnicodeCasemap c.pages) ≡ Some x)
     reads Octet f x t = absurd (none-some x (rw f at t))
     reads AsciiCasemap f x t = absurd (none-some x (rw f at t))
     reads UnicodeCasemap f x t = (f, rw f at t)
 
-    lookup-refused : (x : Refusal) → c.collation ≡ some UnicodeCasemap → (o : Option Refusal) → table_refusal c.table ≡ o
-        → or_else o (pages_under UnicodeCasemap c.pages) ≡ some x → Decided
-    lookup-refused x k (some y) t e =
+    lookup-refused : (x : Refusal) → c.collation ≡ Some UnicodeCasemap → (o : Option Refusal) → table_refusal c.table ≡ o
+        → or_else o (pages_under UnicodeCasemap c.pages) ≡ Some x → Decided
+    lookup-refused x k (Some y) t e =
         inr (y, number-3-to-7 (names_in c.first_list) (names_in c.second_list) y l k t)
-    lookup-refused x k none t e = go (short_pages c.pages) refl e
+    lookup-refused x k None t e = go (short_pages c.pages) refl e
       where
-        go : (b : Bool) → short_pages c.pages ≡ b → check b 15 0 0 ≡ some x → Decided
+        go : (b : Bool) → short_pages c.pages ≡ b → check b 15 0 0 ≡ Some x → Decided
         go true short f =
             inr (
               refusal 15 0 0,
@@ -163,12 +163,12 @@ module _ (c : ListsCall) where
         go false short f = absurd (none-some x f)
 
     lookup-decided : (o : Option Refusal) → lookup_check c.collation c.table c.pages ≡ o → Decided
-    lookup-decided (some x) e =
+    lookup-decided (Some x) e =
         let read = reads l.collation l.known x e in
         lookup-refused x read.0 (table_refusal c.table) refl read.1
-    lookup-decided none e = store-decided e (ltb (length c.store) (length (all_keys c))) refl
+    lookup-decided None e = store-decided e (ltb (length c.store) (length (all_keys c))) refl
 
-  module _ (k : Collation) (e : c.collation ≡ some k) where
+  module _ (k : Collation) (e : c.collation ≡ Some k) where
     counts-decided : Names c.first_list 0 (names_in c.first_list) → Names c.second_list 0 (names_in c.second_list)
         → (a b : Bool)
         → ltb 1024 (length (names_in c.first_list)) ≡ a
@@ -194,13 +194,13 @@ module _ (c : ListsCall) where
         (lookup_check c.collation c.table c.pages)
         refl
 
-    second-decided : list_fault c.first_list ≡ none → (o : Option Refusal) → list_fault c.second_list ≡ o → Decided
-    second-decided w (some x) f =
+    second-decided : list_fault c.first_list ≡ None → (o : Option Refusal) → list_fault c.second_list ≡ o → Decided
+    second-decided w (Some x) f =
         inr (
           refusal x.number 2 x.detail,
           second-11-to-13 k (names_in c.first_list) x e (names-there c.first_list w) (faulty-there c.second_list x f),
         )
-    second-decided w none f =
+    second-decided w None f =
         counts-decided (names-there c.first_list w) (names-there c.second_list f)
         (ltb 1024 (length (names_in c.first_list)))
         (ltb 1024 (length (names_in c.second_list)))
@@ -208,16 +208,16 @@ module _ (c : ListsCall) where
         refl
 
     first-decided : (o : Option Refusal) → list_fault c.first_list ≡ o → Decided
-    first-decided (some x) f =
+    first-decided (Some x) f =
         inr (refusal x.number 1 x.detail, first-11-to-13 k x e (faulty-there c.first_list x f))
-    first-decided none f = second-decided f (list_fault c.second_list) refl
+    first-decided None f = second-decided f (list_fault c.second_list) refl
 
   decided : (o : Option Collation) → c.collation ≡ o → Decided
-  decided none e = inr (refusal 1 0 0, number-1 e)
-  decided (some k) e = first-decided k e (list_fault c.first_list) refl
+  decided None e = inr (refusal 1 0 0, number-1 e)
+  decided (Some k) e = first-decided k e (list_fault c.first_list) refl
 
   -- the refusal has words
-  pub words-refused : (x : Refusal) → lists_refusal c ≡ some x → ListsRefused c x
+  pub words-refused : (x : Refusal) → lists_refusal c ≡ Some x → ListsRefused c x
   words-refused x e = go (decided c.collation refl)
     where
       go : Decided → ListsRefused c x
@@ -225,7 +225,7 @@ module _ (c : ListsCall) where
       go (inr w) = let same : w.0 ≡ x = some_same (sym (refused-words w.0 w.1) ∙ e) in rw (← same) w.1
 
   -- a call without a refusal: the collation is known, both are lists of at most 1,024 names, and table and pages pass
-  pub unrefused-listed : lists_refusal c ≡ none → Listed c (names_in c.first_list) (names_in c.second_list)
+  pub unrefused-listed : lists_refusal c ≡ None → Listed c (names_in c.first_list) (names_in c.second_list)
   unrefused-listed e = go (decided c.collation refl)
     where
       go : Decided → Listed c (names_in c.first_list) (names_in c.second_list)

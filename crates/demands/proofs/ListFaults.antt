@@ -7,7 +7,7 @@ use native.Mathlib.Omega.{arith}
 use native.Mathlib.Decide.{ℕ_discrete}
 use mathlib.Core.Bool.{Bool, true, false, not}
 use mathlib.Core.Logic.{◌⊎◌, ◌↔◌}
-use mathlib.Core.Option.{Option, none, some}
+use Rattle.std.specs.Prelude.{Option, None, Some}
 use mathlib.Core.List.{List, [], ◌∷◌}
 use lib.Dec.{leb, ltb, eqb}
 use lib.ListN.{length, drop}
@@ -33,7 +33,7 @@ use Rattle.demands.proofs.RecordFaults.{few-exactly, refusal_of, stopped-exactly
 
 -- a list of these names has these, and no refusal
 pub names-are : {list : List ℕ} {p : ℕ} {ts : List (List ℕ)} → Names list p ts → p ≤ length list
-    → (names_from list p ≡ ts) × (fault_from list p ≡ none)
+    → (names_from list p ≡ ts) × (fault_from list p ≡ None)
 names-are {list} {p} (no_more e) h = (names-end list p e, fault-end list p e)
 names-are {list} {p} (one_more {next = next} {t = t} e rest) h =
     let n = read_at-next list_rules list p next (of_text t) e in
@@ -43,7 +43,7 @@ names-are {list} {p} (one_more {next = next} {t = t} e rest) h =
     )
 
 -- the first record that is refused
-pub faulty-is : {list : List ℕ} {p : ℕ} {x : Refusal} → Faulty list p x → p ≤ length list → fault_from list p ≡ some x
+pub faulty-is : {list : List ℕ} {p : ℕ} {x : Refusal} → Faulty list p x → p ≤ length list → fault_from list p ≡ Some x
 faulty-is {list} {p} {x} (here e) h = fault-stopped list p h x e
 faulty-is {list} {p} {x} (later {next = next} {t = t} e rest) h =
     fault-name list p h (of_text t) next e ∙ faulty-is rest (read_at-next list_rules list p next (of_text t) e).1
@@ -51,7 +51,7 @@ faulty-is {list} {p} {x} (later {next = next} {t = t} e rest) h =
 -- what is so of a list from a position on
 abbrev Read : List ℕ → ℕ → Type 0
 Read list p =
-    (fault_from list p ≡ none → Names list p (names_from list p)) × ((x : Refusal) → fault_from list p ≡ some x → Faulty list p x)
+    (fault_from list p ≡ None → Names list p (names_from list p)) × ((x : Refusal) → fault_from list p ≡ Some x → Faulty list p x)
 
 read_by : (list : List ℕ) (p : ℕ) → p ≤ length list → ((next : ℕ) → p < next → next ≤ length list → Read list next)
     → (v : Reading) → read_at list_rules list p ≡ v
@@ -64,7 +64,7 @@ read_by list p h rest end e =
 read_by list p h rest (stopped y) e =
     let is = fault-stopped list p h y e in (
       λ f. absurd (none-some y (sym f ∙ is)),
-      λ x f. let same : some y ≡ some x = sym is ∙ f in here (e ∙ (let z : y ≡ x = cc in ap stopped z)),
+      λ x f. let same : Some y ≡ Some x = sym is ∙ f in here (e ∙ (let z : y ≡ x = cc in ap stopped z)),
     )
 read_by list p h rest (item (of_key f k) next) e = absurd (listed-key list p next f k e)
 read_by list p h rest (item (of_text t) next) e =
@@ -83,10 +83,10 @@ read_all (suc n) list p h k =
     read_by list p h (λ next a b. read_all n list next b (omega arith)) (read_at list_rules list p) refl
 
 -- a list without a refusal has its names, and one with a refusal the record that has it
-pub names-there : (list : List ℕ) → list_fault list ≡ none → Names list 0 (names_in list)
+pub names-there : (list : List ℕ) → list_fault list ≡ None → Names list 0 (names_in list)
 names-there list e = (read_all (length list) list 0 (omega arith) (omega arith)).0 e
 
-pub faulty-there : (list : List ℕ) (x : Refusal) → list_fault list ≡ some x → Faulty list 0 x
+pub faulty-there : (list : List ℕ) (x : Refusal) → list_fault list ≡ Some x → Faulty list 0 x
 faulty-there list x e = (read_all (length list) list 0 (omega arith) (omega arith)).1 x e
 
 -- ---- 11, 12 and 13 of one record

@@ -5,7 +5,7 @@ use Prim.Native.Nat.{ℕ, ◌≤◌, ◌<◌}
 use native.Mathlib.Omega.{arith}
 use mathlib.Core.Logic.{inl, inr, ◌↔◌}
 use mathlib.Core.Bool.{Bool, true, false, cond, not, ◌&&◌, true≢false}
-use mathlib.Core.Option.{Option, none, some}
+use Rattle.std.specs.Prelude.{Option, None, Some}
 use mathlib.Core.List.{List, [], ◌∷◌}
 use lib.Dec.{ltb}
 use lib.ListN.{length}
@@ -48,14 +48,14 @@ numbers-lengths p ns = every-length (Between 2 2) p ns (λ q d l. (omega arith, 
 -- 3 to 7
 numbers-row : (size : Bool) (four five six seven : Option ℕ)
     → Numbers 3 7
-    (or_else (or_else (check size 3 0 0) (or_else (refused_at 4 four) (or_else (refused_at 5 five) (or_else (refused_at 6 six) none))))
-    (or_else (refused_at 7 seven) none))
+    (or_else (or_else (check size 3 0 0) (or_else (refused_at 4 four) (or_else (refused_at 5 five) (or_else (refused_at 6 six) None))))
+    (or_else (refused_at 7 seven) None))
 numbers-row true _ _ _ _ = every_some (Between 3 7) (refusal 3 0 0) (omega arith, omega arith)
-numbers-row false (some i) _ _ _ = every_some (Between 3 7) (refusal 4 0 i) (omega arith, omega arith)
-numbers-row false none (some i) _ _ = every_some (Between 3 7) (refusal 5 0 i) (omega arith, omega arith)
-numbers-row false none none (some i) _ = every_some (Between 3 7) (refusal 6 0 i) (omega arith, omega arith)
-numbers-row false none none none (some i) = every_some (Between 3 7) (refusal 7 0 i) (omega arith, omega arith)
-numbers-row false none none none none = every-none (Between 3 7)
+numbers-row false (Some i) _ _ _ = every_some (Between 3 7) (refusal 4 0 i) (omega arith, omega arith)
+numbers-row false None (Some i) _ _ = every_some (Between 3 7) (refusal 5 0 i) (omega arith, omega arith)
+numbers-row false None None (Some i) _ = every_some (Between 3 7) (refusal 6 0 i) (omega arith, omega arith)
+numbers-row false None None None (Some i) = every_some (Between 3 7) (refusal 7 0 i) (omega arith, omega arith)
+numbers-row false None None None None = every-none (Between 3 7)
 
 numbers-table : (t : Table) → Numbers 3 7 (table_refusal t)
 unfolding table_refusal form_refusal
@@ -65,23 +65,23 @@ numbers-table t =
     (level_fault t)
 
 numbers-under : (o : Option Collation) (t : Table) → Numbers 3 7 (table_check o t)
-numbers-under none t = every-none (Between 3 7)
-numbers-under (some k) t = go (reads_table k)
+numbers-under None t = every-none (Between 3 7)
+numbers-under (Some k) t = go (reads_table k)
   where
-    go : (b : Bool) → Numbers 3 7 (cond b (table_refusal t) none)
+    go : (b : Bool) → Numbers 3 7 (cond b (table_refusal t) None)
     go true = numbers-table t
     go false = every-none (Between 3 7)
 
 -- 15
 numbers-pages : (o : Option Collation) (pg : Pages) → Numbers 15 15 (pages_check o pg)
-numbers-pages none pg = every-none (Between 15 15)
-numbers-pages (some k) pg = every-check (Between 15 15) (reads_table k && short_pages pg) 15 0 0 (omega arith, omega arith)
+numbers-pages None pg = every-none (Between 15 15)
+numbers-pages (Some k) pg = every-check (Between 15 15) (reads_table k && short_pages pg) 15 0 0 (omega arith, omega arith)
 
 -- a refusal with another number than the first check gives comes from the second
 numbers-past : {low high : ℕ} {c : Option Refusal} → Numbers low high c → (d : Option Refusal) (x : Refusal)
-    → (low ≤ x.number → x.number ≤ high → ⊥) → or_else c d ≡ some x → d ≡ some x
-numbers-past {c = none} n d x other e = e
-numbers-past {c = some y} n d x other e = absurd (other (n x e).0 (n x e).1)
+    → (low ≤ x.number → x.number ≤ high → ⊥) → or_else c d ≡ Some x → d ≡ Some x
+numbers-past {c = None} n d x other e = e
+numbers-past {c = Some y} n d x other e = absurd (other (n x e).0 (n x e).1)
 
 -- wider bounds hold too
 numbers-wider : {low high : ℕ} {c : Option Refusal} → Numbers low high c → (a b : ℕ) → a ≤ low → high ≤ b → Numbers a b c
@@ -110,7 +110,7 @@ module _ (c : Call) where
       (numbers-wider numbers-room 3 15 (omega arith) (omega arith))
 
   -- a call that is refused with 8 is refused for a key's room
-  pub eight-rooms : (x : Refusal) → call_refusal c ≡ some x → x.number ≡ 8 → room_refusal c ≡ some x
+  pub eight-rooms : (x : Refusal) → call_refusal c ≡ Some x → x.number ≡ 8 → room_refusal c ≡ Some x
   eight-rooms x e n =
       let pages = pages_check c.collation c.pages in
       numbers-past (numbers-pages c.collation c.pages) (room_refusal c) x (λ a b. omega arith)
@@ -120,7 +120,7 @@ module _ (c : Call) where
       (numbers-past numbers-one after-collation x (λ a b. omega arith) (sym (call_refusal-row c) ∙ e))))
 
   -- it passed 1 to 7 and 15
-  pub eight-ready : (x : Refusal) → call_refusal c ≡ some x → x.number ≡ 8 → ready_refusal c ≡ none
+  pub eight-ready : (x : Refusal) → call_refusal c ≡ Some x → x.number ≡ 8 → ready_refusal c ≡ None
   eight-ready x e n = go (ready_refusal c) refl
     where
       other : Every (λ (y : Refusal). y.number ≡ 8 → ⊥) (ready_refusal c)
@@ -133,58 +133,58 @@ module _ (c : Call) where
           (λ y f m. omega (arith, (numbers-under c.collation c.table y f).1))
           (λ y f m. omega (arith, (numbers-pages c.collation c.pages y f).0)))
 
-      go : (o : Option Refusal) → ready_refusal c ≡ o → ready_refusal c ≡ none
-      go none f = f
-      go (some y) f =
+      go : (o : Option Refusal) → ready_refusal c ≡ o → ready_refusal c ≡ None
+      go None f = f
+      go (Some y) f =
           let same : y ≡ x = some_same y x (sym (call_refusal-refused c y f) ∙ e) in
           absurd (other y f (ap (λ (z : Refusal). z.number) same ∙ n))
 
   -- and one that is refused with another number did not
-  pub other-refused : (x : Refusal) → call_refusal c ≡ some x → (x.number ≡ 8 → ⊥) → ready_refusal c ≡ some x
+  pub other-refused : (x : Refusal) → call_refusal c ≡ Some x → (x.number ≡ 8 → ⊥) → ready_refusal c ≡ Some x
   other-refused x e n = go (ready_refusal c) refl
     where
-      go : (o : Option Refusal) → ready_refusal c ≡ o → ready_refusal c ≡ some x
-      go none f =
+      go : (o : Option Refusal) → ready_refusal c ≡ o → ready_refusal c ≡ Some x
+      go None f =
           let bounds = numbers-room x (sym (call_refusal-ready c f) ∙ e) in
           absurd (n (omega (arith, bounds.0, bounds.1)))
-      go (some y) f = f ∙ sym (call_refusal-refused c y f) ∙ e
+      go (Some y) f = f ∙ sym (call_refusal-refused c y f) ∙ e
 
 -- a call under collation 3 that is refused with 8 has an accepted table
-pub eight-table : (t : Table) (pg : Pages) (ls : List Lent) (x : Refusal) → call_refusal (call (some UnicodeCasemap) t pg ls) ≡ some x
+pub eight-table : (t : Table) (pg : Pages) (ls : List Lent) (x : Refusal) → call_refusal (call (Some UnicodeCasemap) t pg ls) ≡ Some x
     → x.number ≡ 8
-    → table_refusal t ≡ none
+    → table_refusal t ≡ None
 eight-table t pg ls x e n =
-    let c : Call = call (some UnicodeCasemap) t pg ls in
+    let c : Call = call (Some UnicodeCasemap) t pg ls in
     go (table_refusal t) refl
     (numbers-past (numbers-lengths 1 (lengths c)) (after-lengths c) x (λ a b. omega arith)
     (numbers-past (numbers-one c) (after-collation c) x (λ a b. omega arith) (sym (call_refusal-row c) ∙ e)))
   where
     go : (o : Option Refusal) → table_refusal t ≡ o
-        → or_else (or_else o (pages_under UnicodeCasemap pg)) (room_refusal (call (some UnicodeCasemap) t pg ls)) ≡ some x
-        → table_refusal t ≡ none
-    go none q h = q
-    go (some y) q h = let is : y ≡ x = cc in absurd (omega (arith, (numbers-table t x (q ∙ ap some is)).1, n))
+        → or_else (or_else o (pages_under UnicodeCasemap pg)) (room_refusal (call (Some UnicodeCasemap) t pg ls)) ≡ Some x
+        → table_refusal t ≡ None
+    go None q h = q
+    go (Some y) q h = let is : y ≡ x = cc in absurd (omega (arith, (numbers-table t x (q ∙ ap Some is)).1, n))
 
 -- a refusal of the table is that of a call under collation 3 exactly where 1 and 2 are passed
 pub table-exactly : (t : Table) (pg : Pages) (ls : List Lent)
-    → texts_refusal (some UnicodeCasemap) (lengths (call (some UnicodeCasemap) t pg ls)) ≡ none
-    → (x : Refusal) → x.number ≤ 7 → (call_refusal (call (some UnicodeCasemap) t pg ls) ≡ some x) ↔ (table_refusal t ≡ some x)
+    → texts_refusal (Some UnicodeCasemap) (lengths (call (Some UnicodeCasemap) t pg ls)) ≡ None
+    → (x : Refusal) → x.number ≤ 7 → (call_refusal (call (Some UnicodeCasemap) t pg ls) ≡ Some x) ↔ (table_refusal t ≡ Some x)
 unfolding call_refusal
 table-exactly t pg ls passed x few =
-    let c : Call = call (some UnicodeCasemap) t pg ls in
+    let c : Call = call (Some UnicodeCasemap) t pg ls in
     rw passed (go c (table_refusal t))
   where
     go : (c : Call) (o : Option Refusal)
-        → (or_else (or_else o (pages_under UnicodeCasemap pg)) (room_refusal c) ≡ some x) ↔ (o ≡ some x)
-    go c none = (
+        → (or_else (or_else o (pages_under UnicodeCasemap pg)) (room_refusal c) ≡ Some x) ↔ (o ≡ Some x)
+    go c None = (
       λ e. absurd (omega (
         arith,
-        (numbers-room c x (numbers-past (numbers-pages (some UnicodeCasemap) pg) (room_refusal c) x (λ a b. omega arith) e)).0,
+        (numbers-room c x (numbers-past (numbers-pages (Some UnicodeCasemap) pg) (room_refusal c) x (λ a b. omega arith) e)).0,
         few,
       )),
       λ e. absurd (none-some x e),
     )
-    go c (some y) = (λ e. e, λ e. e)
+    go c (Some y) = (λ e. e, λ e. e)
 
 -- pages are short exactly when one of their slices is
 pub short-exactly : (pg : Pages) → (short_pages pg ≡ true) ↔ ShortPages pg
@@ -194,16 +194,16 @@ short-exactly pg =
 
 -- 15 is that of a call under collation 3 exactly where 1 to 7 are passed and a page slice is too short
 pub fifteen-exactly : (t : Table) (pg : Pages) (ls : List Lent)
-    → texts_refusal (some UnicodeCasemap) (lengths (call (some UnicodeCasemap) t pg ls)) ≡ none
-    → table_refusal t ≡ none
-    → (call_refusal (call (some UnicodeCasemap) t pg ls) ≡ some (refusal 15 0 0)) ↔ ShortPages pg
+    → texts_refusal (Some UnicodeCasemap) (lengths (call (Some UnicodeCasemap) t pg ls)) ≡ None
+    → table_refusal t ≡ None
+    → (call_refusal (call (Some UnicodeCasemap) t pg ls) ≡ Some (refusal 15 0 0)) ↔ ShortPages pg
 unfolding call_refusal
 fifteen-exactly t pg ls passed accepted =
-    let c : Call = call (some UnicodeCasemap) t pg ls in
+    let c : Call = call (Some UnicodeCasemap) t pg ls in
     rw (passed, accepted) (go c (short_pages pg) (short-exactly pg))
   where
     go : (c : Call) (b : Bool) → (b ≡ true) ↔ ShortPages pg
-        → (or_else (check b 15 0 0) (room_refusal c) ≡ some (refusal 15 0 0)) ↔ ShortPages pg
+        → (or_else (check b 15 0 0) (room_refusal c) ≡ Some (refusal 15 0 0)) ↔ ShortPages pg
     go c true short = (λ e. short.0 refl, λ h. refl)
     go c false short = (
       λ e. absurd (omega (arith, (numbers-room c (refusal 15 0 0) e).1)),
@@ -221,26 +221,26 @@ beyond-numbers n p ns l x e f = absurd (omega (arith, (ns x e).0))
 
 -- a check's refusal is given exactly when its test holds, if no later check gives the same
 here-exactly : (n p d a b : ℕ) (rest : Option Refusal) → Every (Beyond n p) rest
-    → (or_else (check (ltb a b) n p d) rest ≡ some (refusal n p d)) ↔ (a < b)
+    → (or_else (check (ltb a b) n p d) rest ≡ Some (refusal n p d)) ↔ (a < b)
 here-exactly n p d a b rest later = (λ e. go (ltb a b) refl e, λ l. rw (lt-ltb a b l))
   where
-    go : (t : Bool) → ltb a b ≡ t → or_else (check t n p d) rest ≡ some (refusal n p d) → a < b
+    go : (t : Bool) → ltb a b ≡ t → or_else (check t n p d) rest ≡ Some (refusal n p d) → a < b
     go true f e = ltb-true a b f
     go false f e = absurd (omega (arith, later (refusal n p d) e refl))
 
 -- ---- 1, 2 and 8 in words
 
-collation-known : (k : ℕ) → CollationNumber k → collation_check (collation_of k) ≡ none
+collation-known : (k : ℕ) → CollationNumber k → collation_check (collation_of k) ≡ None
 collation-known k (inl e) = rw e
 collation-known k (inr (inl e)) = rw e
 collation-known k (inr (inr e)) = rw e
 
-collation-unknown : (k : ℕ) → (CollationNumber k → ⊥) → collation_check (collation_of k) ≡ some (refusal 1 0 0)
+collation-unknown : (k : ℕ) → (CollationNumber k → ⊥) → collation_check (collation_of k) ≡ Some (refusal 1 0 0)
 collation-unknown k h = rw (ne_eqb k 1 (λ e. h (inl e)), ne_eqb k 2 (λ e. h (inr (inl e))), ne_eqb k 3 (λ e. h (inr (inr e))))
 
 -- 1 exactly when the collation is not one
 pub one-exactly : (k : ℕ) (t : Table) (pg : Pages) (ls : List Lent)
-    → (call_refusal (call (collation_of k) t pg ls) ≡ some (refusal 1 0 0)) ↔ (CollationNumber k → ⊥)
+    → (call_refusal (call (collation_of k) t pg ls) ≡ Some (refusal 1 0 0)) ↔ (CollationNumber k → ⊥)
 one-exactly k t pg ls =
     let c : Call = call (collation_of k) t pg ls in (
       λ e known. omega (
@@ -256,46 +256,46 @@ one-exactly k t pg ls =
 module _ (k : Collation) (t : Table) (pg : Pages) where
   -- 2 of the first text exactly when it is too long
   pub two-first : (l : Lent) (ls : List Lent)
-      → (call_refusal (call (some k) t pg (l ∷ ls)) ≡ some (refusal 2 1 (length l.text))) ↔ (text_most < length l.text)
+      → (call_refusal (call (Some k) t pg (l ∷ ls)) ≡ Some (refusal 2 1 (length l.text))) ↔ (text_most < length l.text)
   two-first l ls =
-      let c : Call = call (some k) t pg (l ∷ ls) in
+      let c : Call = call (Some k) t pg (l ∷ ls) in
       let rest = after-lengths c in
-      let others = length_checks 2 (lengths (call (some k) t pg ls)) in
+      let others = length_checks 2 (lengths (call (Some k) t pg ls)) in
       rw (call_refusal-row c, or_else-assoc (length_check 1 (length l.text)) others rest)
       (here-exactly 2 1 (length l.text) text_most (length l.text) (or_else others rest)
       (every-else (Beyond 2 1) others rest
-      (every-length (Beyond 2 1) 2 (lengths (call (some k) t pg ls)) (λ q d l e. omega arith))
+      (every-length (Beyond 2 1) 2 (lengths (call (Some k) t pg ls)) (λ q d l e. omega arith))
       (beyond-numbers 2 1 (numbers-later c) (omega arith))))
 
   -- and of the second, where the first is not
   pub two-second : (l n : Lent) → length l.text ≤ text_most
-      → (call_refusal (call (some k) t pg (l ∷ n ∷ [])) ≡ some (refusal 2 2 (length n.text))) ↔ (text_most < length n.text)
+      → (call_refusal (call (Some k) t pg (l ∷ n ∷ [])) ≡ Some (refusal 2 2 (length n.text))) ↔ (text_most < length n.text)
   two-second l n fits =
-      let c : Call = call (some k) t pg (l ∷ n ∷ []) in
+      let c : Call = call (Some k) t pg (l ∷ n ∷ []) in
       rw (call_refusal-row c, le-ltb text_most (length l.text) fits, or_else-none (length_check 2 (length n.text)))
       (here-exactly 2 2 (length n.text) text_most (length n.text) (after-lengths c)
       (beyond-numbers 2 2 (numbers-later c) (omega arith)))
 
   -- 8 of the first text, where 1 to 7 and 15 were passed, exactly when its buffer is too short
-  pub eight-first : (l : Lent) (ls : List Lent) → ready_refusal (call (some k) t pg (l ∷ ls)) ≡ none
+  pub eight-first : (l : Lent) (ls : List Lent) → ready_refusal (call (Some k) t pg (l ∷ ls)) ≡ None
       → let n = room_for (prepared k (mapping_of t) l.text) in
-      (call_refusal (call (some k) t pg (l ∷ ls)) ≡ some (refusal 8 1 n)) ↔ (length l.buffer < n)
+      (call_refusal (call (Some k) t pg (l ∷ ls)) ≡ Some (refusal 8 1 n)) ↔ (length l.buffer < n)
   eight-first l ls ready =
       let n = room_for (prepared k (mapping_of t) l.text) in
-      let others = prepared_in (call (some k) t pg ls) in
-      rw (call_refusal-ready (call (some k) t pg (l ∷ ls)) ready)
+      let others = prepared_in (call (Some k) t pg ls) in
+      rw (call_refusal-ready (call (Some k) t pg (l ∷ ls)) ready)
       (here-exactly 8 1 n (length l.buffer) n (room_checks 2 ls others)
       (every-room (Beyond 8 1) 2 ls others (λ q d l e. omega arith)))
 
   -- and of the second, where the first's is not
-  pub eight-second : (l o : Lent) → ready_refusal (call (some k) t pg (l ∷ o ∷ [])) ≡ none
+  pub eight-second : (l o : Lent) → ready_refusal (call (Some k) t pg (l ∷ o ∷ [])) ≡ None
       → room_for (prepared k (mapping_of t) l.text) ≤ length l.buffer
       → let n = room_for (prepared k (mapping_of t) o.text) in
-      (call_refusal (call (some k) t pg (l ∷ o ∷ [])) ≡ some (refusal 8 2 n)) ↔ (length o.buffer < n)
+      (call_refusal (call (Some k) t pg (l ∷ o ∷ [])) ≡ Some (refusal 8 2 n)) ↔ (length o.buffer < n)
   eight-second l o ready fits =
       let n = room_for (prepared k (mapping_of t) o.text) in
       rw (
-        call_refusal-ready (call (some k) t pg (l ∷ o ∷ [])) ready,
+        call_refusal-ready (call (Some k) t pg (l ∷ o ∷ [])) ready,
         le-ltb (length l.buffer) (room_for (prepared k (mapping_of t) l.text)) fits,
       )
-      (here-exactly 8 2 n (length o.buffer) n none (λ x e f. absurd (none-some x e)))
+      (here-exactly 8 2 n (length o.buffer) n None (λ x e f. absurd (none-some x e)))

@@ -1,5 +1,7 @@
 -- The order of keys is the one that document 01 describes: less is to precede, octet by octet.
 -- Assumes nothing.
+use Rattle.std.specs.declared.cmp.Ordering.TheVariants.{Less, Greater}
+use Rattle.std.specs.Prelude.{Ok}
 use mathlib.Core.Path.{◌≡◌, refl, sym, ◌∙◌}
 use Prim.Native.Nat.{ℕ, compare, Ordering}
 use native.Mathlib.Omega.{arith}
@@ -10,8 +12,7 @@ use Rattle.octets.proofs.Order.{compare_refl, compare-equal, compare-below, comp
 use Rattle.octets.proofs.Orders.{flip}
 use Rattle.keys.specs.Keys.{PreparedText}
 use Rattle.compare.specs.Compare.{ordered_by, OrderSays}
-use Rattle.compare.specs.declared.Ordered.{Ordered}
-use Rattle.compare.specs.declared.Ordered.TheVariants.{Less, Greater}
+use Rattle.compare.specs.Compare.{Ordered}
 use Rattle.compare.proofs.Preorder.{answers-keys}
 use Rattle.demands.specs.Demands.{Precedes, proper-prefix, lower, later}
 
@@ -33,19 +34,19 @@ precedes-less proper-prefix = refl
 precedes-less (lower {a} {b} l) = rw (compare-below a b l)
 precedes-less (later {a} p) = rw (compare_refl a) (precedes-less p)
 
-less-is : (o : Ordering) → (ordered_by o ≡ Less) ↔ (o ≡ Ordering.lt)
+less-is : (o : Ordering) → (ordered_by o ≡ Ok Less) ↔ (o ≡ Ordering.lt)
 less-is Ordering.lt = (λ e. refl, λ e. refl)
 less-is Ordering.eq = (λ e. cc, λ e. cc)
 less-is Ordering.gt = (λ e. cc, λ e. cc)
 
-greater-is : (o : Ordering) → (ordered_by o ≡ Greater) ↔ (flip o ≡ Ordering.lt)
+greater-is : (o : Ordering) → (ordered_by o ≡ Ok Greater) ↔ (flip o ≡ Ordering.lt)
 greater-is Ordering.lt = (λ e. cc, λ e. cc)
 greater-is Ordering.eq = (λ e. cc, λ e. cc)
 greater-is Ordering.gt = (λ e. refl, λ e. refl)
 
 module _ {p q : PreparedText} {r : Ordered} (c : OrderSays p q r) where
   -- Less is answered exactly where the first key precedes the second
-  pub less-exactly : (r ≡ Less) ↔ Precedes p.key q.key
+  pub less-exactly : (r ≡ Ok Less) ↔ Precedes p.key q.key
   less-exactly =
       let is = less-is (order_of p.key q.key) in (
         λ e. less-precedes p.key q.key (is.0 (sym (answers-keys c) ∙ e)),
@@ -53,7 +54,7 @@ module _ {p q : PreparedText} {r : Ordered} (c : OrderSays p q r) where
       )
 
   -- and Greater where the second precedes the first
-  pub greater-exactly : (r ≡ Greater) ↔ Precedes q.key p.key
+  pub greater-exactly : (r ≡ Ok Greater) ↔ Precedes q.key p.key
   greater-exactly =
       let is = greater-is (order_of p.key q.key) in
       let turned = order_flip p.key q.key in (

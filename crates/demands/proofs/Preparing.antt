@@ -1,12 +1,13 @@
 -- What calls answer and leave of a valid text under collation 3, in the words of demand 3: `prepare`, and any call that
 -- leaves keys.
 -- Assumes nothing.
+use Rattle.std.specs.Prelude.{Ok}
 use mathlib.Core.Path.{◌≡◌, refl, sym, ap, ◌∙◌}
 use Prim.Native.Nat.{ℕ}
 use native.Mathlib.Omega.{arith}
 use mathlib.Core.Bool.{Bool, true, false}
 use mathlib.Core.Logic.{◌⊎◌, inl, inr}
-use mathlib.Core.Option.{Option, none, some}
+use Rattle.std.specs.Prelude.{Option, None, Some}
 use mathlib.Core.List.{List, [], ◌∷◌}
 use lib.Dec.{ltb}
 use lib.ListN.{length}
@@ -31,8 +32,7 @@ use Rattle.keys.proofs.Injective.{truth-inj}
 use Rattle.pages.specs.Pages.{Pages}
 use Rattle.prepare.specs.Calls.{Lent, Call, call, prepared_in, room_check, room_refusal, call_refusal, keyed_all, Called}
 use Rattle.prepare.specs.Preparing.{preparation_outcome, shown_key, Prepares}
-use Rattle.prepare.specs.declared.Preparation.{Preparation}
-use Rattle.prepare.specs.declared.Preparation.TheVariants.{Prepared}
+use Rattle.prepare.specs.Preparing.{Preparation}
 use Rattle.prepare.proofs.Answering.{answered-gives, answered-refused}
 use Rattle.prepare.proofs.CallRefusals.{unrefused-table}
 use Rattle.prepare.proofs.Shown.{shown-key}
@@ -40,15 +40,15 @@ use Rattle.demands.specs.Demands.{Exact, KeyLeft, Short}
 use Rattle.demands.proofs.Numbers.{eight-rooms, eight-table}
 
 -- a check gives its refusal only where its test holds
-check-some : (b : Bool) (n p d : ℕ) (x : Refusal) → check b n p d ≡ some x → (b ≡ true) × (x ≡ refusal n p d)
+check-some : (b : Bool) (n p d : ℕ) (x : Refusal) → check b n p d ≡ Some x → (b ≡ true) × (x ≡ refusal n p d)
 check-some true n p d x e = (refl, cc)
 check-some false n p d x e = absurd (none-some x e)
 
 module _ {k : Collation} {t : Table} {pg : Pages} {l : Lent} {r : Preparation} {after : List ℕ}
-    (h : Prepares (call (some k) t pg (l ∷ [])) r after)
-    {s : Summary} (e : r ≡ Prepared s) where
+    (h : Prepares (call (Some k) t pg (l ∷ [])) r after)
+    {s : Summary} (e : r ≡ Ok s) where
   -- a text that was prepared was not refused
-  pub unrefused : call_refusal (call (some k) t pg (l ∷ [])) ≡ none
+  pub unrefused : call_refusal (call (Some k) t pg (l ∷ [])) ≡ None
   unrefused = (answered-gives h.call (summary_numbers s) (ap preparation_outcome e)).0
 
   -- and its numbers are the prepared text's
@@ -61,17 +61,17 @@ module _ {k : Collation} {t : Table} {pg : Pages} {l : Lent} {r : Preparation} {
 
 -- a valid text under collation 3
 module _ {t : Table} {pg : Pages} {l : Lent} {r : Preparation} {after : List ℕ}
-    (h : Prepares (call (some UnicodeCasemap) t pg (l ∷ [])) r after) where
+    (h : Prepares (call (Some UnicodeCasemap) t pg (l ∷ [])) r after) where
   -- its table was accepted
-  pub table-accepted : {s : Summary} → r ≡ Prepared s → table_refusal t ≡ none
-  table-accepted e = unrefused-table (call (some UnicodeCasemap) t pg (l ∷ [])) (unrefused h e)
+  pub table-accepted : {s : Summary} → r ≡ Ok s → table_refusal t ≡ None
+  table-accepted e = unrefused-table (call (Some UnicodeCasemap) t pg (l ∷ [])) (unrefused h e)
 
-  module _ {chs : List Character} (valid : characters l.text ≡ some chs) where
-    prepared-valid : prepared UnicodeCasemap (mapping_of t) l.text ≡ unicode_prepared (mapping_of t) l.text (some chs)
+  module _ {chs : List Character} (valid : characters l.text ≡ Some chs) where
+    prepared-valid : prepared UnicodeCasemap (mapping_of t) l.text ≡ unicode_prepared (mapping_of t) l.text (Some chs)
     prepared-valid = ap (unicode_prepared (mapping_of t) l.text) valid
 
     -- it was prepared: the answer is that of the published steps
-    pub exact : (s : Summary) → r ≡ Prepared s → Exact (mapping_of t) chs s (shown_key r l.text after)
+    pub exact : (s : Summary) → r ≡ Ok s → Exact (mapping_of t) chs s (shown_key r l.text after)
     exact s e =
         let same = rw prepared-valid at (numbers-are h e) in
         let count : s.lookups ≡ steps_lookups (mapping_of t) chs = cc in
@@ -86,18 +86,18 @@ module _ {t : Table} {pg : Pages} {l : Lent} {r : Preparation} {after : List ℕ
 -- ---- any call under collation 3
 
 -- the text of one that is valid, prepared
-prepared-chs : (m : Mapping) (l : Lent) (chs : List Character) → characters l.text ≡ some chs
-    → prepared UnicodeCasemap m l.text ≡ unicode_prepared m l.text (some chs)
+prepared-chs : (m : Mapping) (l : Lent) (chs : List Character) → characters l.text ≡ Some chs
+    → prepared UnicodeCasemap m l.text ≡ unicode_prepared m l.text (Some chs)
 prepared-chs m l chs valid = ap (unicode_prepared m l.text) valid
 
 -- of any call on texts
 module _ {R : Type 0} {outcome : R → Outcome} {values : Call → Option (List ℕ)} {c : Call} {r : R} {after : List (List ℕ)}
     (h : Called outcome values c r after) where
   -- values were given, so nothing refused it
-  pub given-unrefused : Given (outcome r) → call_refusal c ≡ none
+  pub given-unrefused : Given (outcome r) → call_refusal c ≡ None
   given-unrefused g = go (outcome r) refl g
     where
-      go : (o : Outcome) → outcome r ≡ o → Given o → call_refusal c ≡ none
+      go : (o : Outcome) → outcome r ≡ o → Given o → call_refusal c ≡ None
       go (refused x) e g = absurd g
       go (gives vs) e g = (answered-gives h vs e).0
 
@@ -108,20 +108,20 @@ module _ {R : Type 0} {outcome : R → Outcome} {values : Call → Option (List 
 -- under collation 3
 module _ {R : Type 0} {outcome : R → Outcome} {values : Call → Option (List ℕ)} {t : Table} {pg : Pages} {ls : List Lent} {r : R}
     {after : List (List ℕ)}
-    (h : Called outcome values (call (some UnicodeCasemap) t pg ls) r after) where
+    (h : Called outcome values (call (Some UnicodeCasemap) t pg ls) r after) where
   -- values were given: its table was accepted
-  pub given-accepted : Given (outcome r) → table_refusal t ≡ none
-  given-accepted g = unrefused-table (call (some UnicodeCasemap) t pg ls) (given-unrefused h g)
+  pub given-accepted : Given (outcome r) → table_refusal t ≡ None
+  given-accepted g = unrefused-table (call (Some UnicodeCasemap) t pg ls) (given-unrefused h g)
 
   -- refused with 8: its table was accepted, and a key has no room
-  pub eight-accepted : (x : Refusal) → outcome r ≡ refused x → x.number ≡ 8 → table_refusal t ≡ none
+  pub eight-accepted : (x : Refusal) → outcome r ≡ refused x → x.number ≡ 8 → table_refusal t ≡ None
   eight-accepted x e n = eight-table t pg ls x (answered-refused h x e) n
 
-  pub eight-room : (x : Refusal) → outcome r ≡ refused x → x.number ≡ 8 → room_refusal (call (some UnicodeCasemap) t pg ls) ≡ some x
-  eight-room x e n = eight-rooms (call (some UnicodeCasemap) t pg ls) x (answered-refused h x e) n
+  pub eight-room : (x : Refusal) → outcome r ≡ refused x → x.number ≡ 8 → room_refusal (call (Some UnicodeCasemap) t pg ls) ≡ Some x
+  eight-room x e n = eight-rooms (call (Some UnicodeCasemap) t pg ls) x (answered-refused h x e) n
 
 -- a key buffer with the key of a valid text has that of the published steps
-pub keyed-left : (t : Table) → table_refusal t ≡ none → (l : Lent) (chs : List Character) → characters l.text ≡ some chs
+pub keyed-left : (t : Table) → table_refusal t ≡ None → (l : Lent) (chs : List Character) → characters l.text ≡ Some chs
     → KeyLeft (mapping_of t) chs l.buffer (keyed (prepared UnicodeCasemap (mapping_of t) l.text) l.buffer)
 keyed-left t ok l chs valid =
     record {
@@ -132,8 +132,8 @@ keyed-left t ok l chs valid =
     }
 
 -- 8 at the place of a valid text names that key's length
-pub room-short : (t : Table) → table_refusal t ≡ none → (l : Lent) (chs : List Character) → characters l.text ≡ some chs
-    → (place : ℕ) (x : Refusal) → room_check place (length l.buffer) (prepared UnicodeCasemap (mapping_of t) l.text) ≡ some x
+pub room-short : (t : Table) → table_refusal t ≡ None → (l : Lent) (chs : List Character) → characters l.text ≡ Some chs
+    → (place : ℕ) (x : Refusal) → room_check place (length l.buffer) (prepared UnicodeCasemap (mapping_of t) l.text) ≡ Some x
     → Short (mapping_of t) chs place l.buffer x
 room-short t ok l chs valid place x e =
     let needed = length (steps_key (mapping_of t) chs) in
@@ -165,27 +165,27 @@ module _ (t : Table) (pg : Pages) (l n : Lent) (x : Refusal) where
 
   -- 8 is of the first text or of the second
   abbrev Places : Type 0
-  Places = ((first-room ≡ some x) × (x.place ≡ 1)) ⊎ ((second-room ≡ some x) × (x.place ≡ 2))
+  Places = ((first-room ≡ Some x) × (x.place ≡ 1)) ⊎ ((second-room ≡ Some x) × (x.place ≡ 2))
 
-  pub room-places : room_refusal (call (some UnicodeCasemap) t pg (l ∷ n ∷ [])) ≡ some x → Places
+  pub room-places : room_refusal (call (Some UnicodeCasemap) t pg (l ∷ n ∷ [])) ≡ Some x → Places
   room-places e = go first-room refl e
     where
       place_of : (place : ℕ) (m : Lent)
-          → room_check place (length m.buffer) (prepared UnicodeCasemap (mapping_of t) m.text) ≡ some x
+          → room_check place (length m.buffer) (prepared UnicodeCasemap (mapping_of t) m.text) ≡ Some x
           → x.place ≡ place
       place_of place m q =
           let room = room_for (prepared UnicodeCasemap (mapping_of t) m.text) in
           ap (λ (y : Refusal). y.place) (check-some (ltb (length m.buffer) room) 8 place room x q).1
 
-      go : (o : Option Refusal) → first-room ≡ o → or_else o (or_else second-room none) ≡ some x → Places
-      go none q f =
-          let is : second-room ≡ some x = sym (or_else-none second-room) ∙ f in inr (is, place_of 2 n is)
-      go (some y) q f = let is : first-room ≡ some x = q ∙ f in inl (is, place_of 1 l is)
+      go : (o : Option Refusal) → first-room ≡ o → or_else o (or_else second-room None) ≡ Some x → Places
+      go None q f =
+          let is : second-room ≡ Some x = sym (or_else-none second-room) ∙ f in inr (is, place_of 2 n is)
+      go (Some y) q f = let is : first-room ≡ Some x = q ∙ f in inl (is, place_of 1 l is)
 
-  pub at_first : Places → x.place ≡ 1 → first-room ≡ some x
+  pub at_first : Places → x.place ≡ 1 → first-room ≡ Some x
   at_first (inl p) e = p.0
   at_first (inr p) e = absurd (omega (arith, p.1, e))
 
-  pub at_second : Places → x.place ≡ 2 → second-room ≡ some x
+  pub at_second : Places → x.place ≡ 2 → second-room ≡ Some x
   at_second (inl p) e = absurd (omega (arith, p.1, e))
   at_second (inr p) e = p.0

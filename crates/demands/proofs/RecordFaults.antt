@@ -5,7 +5,7 @@ use Prim.Native.Nat.{ℕ, ◌-◌}
 use native.Mathlib.Decide.{ℕ_discrete}
 use mathlib.Core.Bool.{Bool, true, false, not, ◌&&◌, ◌||◌, or-false}
 use mathlib.Core.Logic.{◌⊎◌, inl, inr, ◌↔◌}
-use mathlib.Core.Option.{Option, none, some}
+use Rattle.std.specs.Prelude.{Option, None, Some}
 use mathlib.Core.List.{List, [], ◌∷◌}
 use lib.Dec.{leb, ltb, eqb}
 use lib.ListN.{length, drop, length-drop}
@@ -28,7 +28,7 @@ use Rattle.demands.proofs.KeyFaults.{key-exactly, item-exactly}
 
 -- ---- writing: 13, 8
 
-pub write-row : (i : Item) (p m n d : ℕ) → (writing_refusal i p m ≡ some (refusal n 0 d)) ↔ FirstFault (write_faults i p m) n d
+pub write-row : (i : Item) (p m n d : ℕ) → (writing_refusal i p m ≡ Some (refusal n 0 d)) ↔ FirstFault (write_faults i p m) n d
 write-row i p m n d =
     row-exactly (writing_checks rules i p m) (write_faults i p m) (
       renders-plain (not (fits rules i)) 13 (item-exactly i),
@@ -78,9 +78,9 @@ few-exactly s p =
 
 -- the refusal that reading gives, if it is one
 abbrev pub refusal_of : Reading → Option Refusal
-refusal_of end = none
-refusal_of (stopped x) = some x
-refusal_of (item i n) = none
+refusal_of end = None
+refusal_of (stopped x) = Some x
+refusal_of (item i n) = None
 
 -- of a text
 text-refusal : (next : ℕ) (body : List ℕ)
@@ -136,7 +136,7 @@ rest-refusal p rest = go (short rest) refl
     go false e = ap refusal_of (read_rest-whole rules p rest e) ∙ rw e (following-refusal _ (following rest))
 
 -- a refusal is what reading gives exactly where it is this
-pub stopped-exactly : (v : Reading) (x : Refusal) → (v ≡ stopped x) ↔ (refusal_of v ≡ some x)
+pub stopped-exactly : (v : Reading) (x : Refusal) → (v ≡ stopped x) ↔ (refusal_of v ≡ Some x)
 stopped-exactly end x = (λ e. cc, λ e. absurd (none-some x e))
 stopped-exactly (stopped y) x = (λ e. cc, λ e. cc)
 stopped-exactly (item i n) x = (λ e. cc, λ e. absurd (none-some x e))
@@ -165,7 +165,7 @@ read-row s p inside n d =
 -- ---- the numbers
 
 -- of three checks
-pub three : (a b c : Bool) (y : Refusal) → first (check a 11 0 0 ∷ check b 12 0 0 ∷ check c 13 0 0 ∷ []) ≡ some y
+pub three : (a b c : Bool) (y : Refusal) → first (check a 11 0 0 ∷ check b 12 0 0 ∷ check c 13 0 0 ∷ []) ≡ Some y
     → (y ≡ refusal 11 0 0) ⊎ (y ≡ refusal 12 0 0) ⊎ (y ≡ refusal 13 0 0)
 three true b c y e = inl (cc)
 three false true c y e = inr (inl (cc))
@@ -184,12 +184,12 @@ read-numbers s p y e = go (ℕ_discrete p (length s))
         (sym (ap refusal_of (read_at-rest rules s p f) ∙ rest-refusal p (drop p s)) ∙ ap refusal_of e)
 
 -- and of two
-two : (a b : Bool) (n : ℕ) (y : Refusal) → first (check a 13 0 0 ∷ check b 8 0 n ∷ []) ≡ some y
+two : (a b : Bool) (n : ℕ) (y : Refusal) → first (check a 13 0 0 ∷ check b 8 0 n ∷ []) ≡ Some y
     → (y ≡ refusal 13 0 0) ⊎ (y ≡ refusal 8 0 n)
 two true b n y e = inl (cc)
 two false true n y e = inr (cc)
 two false false n y e = absurd (none-some y e)
 
-pub write-numbers : (i : Item) (p m : ℕ) (y : Refusal) → writing_refusal i p m ≡ some y
+pub write-numbers : (i : Item) (p m : ℕ) (y : Refusal) → writing_refusal i p m ≡ Some y
     → (y ≡ refusal 13 0 0) ⊎ (y ≡ refusal 8 0 (length (record_of i)))
 write-numbers i p m y e = two (not (fits rules i)) (ltb (m - p) (length (record_of i))) (length (record_of i)) y e

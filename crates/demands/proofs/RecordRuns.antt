@@ -1,6 +1,7 @@
 -- Calls one after another: items that were written are read, what was read is written again as the octets that it was read
 -- from, and reading goes on to the end or to a refusal.
 -- Assumes nothing.
+use Rattle.std.specs.Prelude.{Result, Ok}
 use mathlib.Core.Path.{◌≡◌, refl, sym, ap, ap₂, subst, subst₂, ◌∙◌}
 use Prim.Native.Nat.{ℕ, zero, suc, ◌+◌, ◌-◌, ◌≤◌}
 use native.Mathlib.Omega.{arith}
@@ -12,7 +13,6 @@ use lib.Seq.{slice, slice_empty, take-take, drop-drop, drop-append-le, drop-appe
 use Rattle.terms.specs.Lists.{all, put_at, each}
 use Rattle.terms.specs.declared.Refusal.{Refusal}
 use Rattle.terms.specs.declared.RecordPosition.{RecordPosition}
-use Rattle.records.specs.declared.Written.TheVariants.{Upto}
 use Rattle.terms.proofs.Lists.{all_cons, all_first, all_rest}
 use Rattle.terms.proofs.PutAt.{length-put_at, put_at-none, put_at-append}
 use Rattle.records.specs.Numbers.{Octets}
@@ -27,7 +27,7 @@ use Rattle.demands.proofs.RecordCalls.{item-read, reads-next, writes-given, writ
 -- ---- calls one after another
 
 -- an answer has one position
-upto-same : {a b : RecordPosition} → Upto a ≡ Upto b → a.0 ≡ b.0
+upto-same : {a b : RecordPosition} → ◌≡◌ {A = Result RecordPosition Refusal} (Ok a) (Ok b) → a.0 ≡ b.0
 upto-same e = cc
 
 -- a run of items in two parts: the second is read from where the first ends

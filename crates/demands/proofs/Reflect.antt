@@ -5,7 +5,7 @@ use Prim.Native.Nat.{ℕ, ◌≤◌, ◌<◌}
 use native.Mathlib.Omega.{arith}
 use mathlib.Core.Bool.{Bool, true, false, cond, not, ◌&&◌, ◌||◌, true≢false}
 use mathlib.Core.Logic.{◌⊎◌, inl, inr, ◌↔◌}
-use mathlib.Core.Option.{Option, none, some}
+use Rattle.std.specs.Prelude.{Option, None, Some}
 use mathlib.Core.List.{List, [], ◌∷◌, ◌++◌}
 use lib.Dec.{leb, ltb, eqb}
 use borrow.Author.Tests.{ltb-true, leb-true, eqb-true, lt-ltb, le-leb, eq-eqb}
@@ -147,9 +147,9 @@ module _ {A B C : Type 0} where
 
 module _ {A : Type 0} where
   -- nothing is there
-  pub gone-exactly : (o : Option A) → (not (there o) ≡ true) ↔ (o ≡ none)
-  gone-exactly none = (λ e. refl, λ e. refl)
-  gone-exactly (some a) = (λ e. absurd (true≢false (sym e)), λ e. absurd (none-some a (sym e)))
+  pub gone-exactly : (o : Option A) → (not (there o) ≡ true) ↔ (o ≡ None)
+  gone-exactly None = (λ e. refl, λ e. refl)
+  gone-exactly (Some a) = (λ e. absurd (true≢false (sym e)), λ e. absurd (none-some a (sym e)))
 
   pub empty-exactly : (xs : List A) → (empty xs ≡ true) ↔ (xs ≡ [])
   empty-exactly [] = (λ e. refl, λ e. refl)
@@ -187,7 +187,7 @@ module _ {A : Type 0} where
 
 module _ (test : ℕ → Bool) {holds : ℕ → Type 0} (exactly : (i : ℕ) → (test i ≡ true) ↔ holds i) (n : ℕ) where
   -- the lowest at which a test holds is the lowest of which what it tests does
-  pub lowest-exactly : (i : ℕ) → (lowest test n ≡ some i) ↔ LowestAt holds n i
+  pub lowest-exactly : (i : ℕ) → (lowest test n ≡ Some i) ↔ LowestAt holds n i
   lowest-exactly i = (
     λ e.
         (let found = lowest-some test n i e in
@@ -200,7 +200,7 @@ module _ (test : ℕ → Bool) {holds : ℕ → Type 0} (exactly : (i : ℕ) →
   )
 
   -- there is none
-  pub nowhere-exactly : (lowest test n ≡ none) ↔ ((j : ℕ) → j < n → holds j → ⊥)
+  pub nowhere-exactly : (lowest test n ≡ None) ↔ ((j : ℕ) → j < n → holds j → ⊥)
   nowhere-exactly = (
     λ e j l. (false-exactly (test j) (exactly j)).0 (lowest-none test n e j l),
     λ h. lowest-nowhere test n (λ j l. (false-exactly (test j) (exactly j)).1 (h j l)),

@@ -5,7 +5,7 @@ use mathlib.Core.Path.{◌≡◌, sym, ◌∙◌}
 use Prim.Native.Nat.{ℕ}
 use mathlib.Core.Logic.Iff
 use mathlib.Core.Logic.{◌↔◌}
-use mathlib.Core.Option.{some}
+use Rattle.std.specs.Prelude.{Some}
 use mathlib.Core.List.{List, [], ◌∷◌}
 use Rattle.terms.specs.Lists.{In}
 use Rattle.terms.specs.Refusals.{refusal}
@@ -25,20 +25,20 @@ use Rattle.demands.proofs.Demand2.{built-says, built-gives}
 
 module _ {line : List ℕ} {p : Properties} (s : LineSays line p) where
   -- a line says one code point and one decomposition
-  code-said : {c : ℕ} → code_point (field 0 line) ≡ some c → p.code ≡ c
-  code-said {c} e = let same : some p.code ≡ some c = sym s.code ∙ e in cc
+  code-said : {c : ℕ} → code_point (field 0 line) ≡ Some c → p.code ≡ c
+  code-said {c} e = let same : Some p.code ≡ Some c = sym s.code ∙ e in cc
 
-  parts_said : {ps : List ℕ} → decomposition (field 5 line) ≡ some ps → p.parts ≡ ps
-  parts_said {ps} e = let same : some p.parts ≡ some ps = sym s.parts ∙ e in cc
+  parts_said : {ps : List ℕ} → decomposition (field 5 line) ≡ Some ps → p.parts ≡ ps
+  parts_said {ps} e = let same : Some p.parts ≡ Some ps = sym s.parts ∙ e in cc
 
   -- ---- and the titlecase
 
   -- field 12's, where field 14 is empty
-  pub says-uppercase : (u : ℕ) → field 14 line ≡ [] → code_point (field 12 line) ≡ some u → p.title ≡ u
+  pub says-uppercase : (u : ℕ) → field 14 line ≡ [] → code_point (field 12 line) ≡ Some u → p.title ≡ u
   says-uppercase u e f = titlecase-upper p.code (field 12 line) p.title u (rw e at s.title) f
 
   -- field 14's, where that is filled, whatever field 12 has
-  pub says-titlecase : (t : ℕ) → code_point (field 14 line) ≡ some t → p.title ≡ t
+  pub says-titlecase : (t : ℕ) → code_point (field 14 line) ≡ Some t → p.title ≡ t
   says-titlecase t e = titlecase-filled p.code (field 12 line) (field 14 line) p.title t s.title e
 
   -- and itself, where both are empty
@@ -49,7 +49,7 @@ module _ {line : List ℕ} {p : Properties} (s : LineSays line p) where
 
 -- of the code point c of a line that calls of `add_line` took, the table that they have grown has that titlecase
 module _ {t : Table} {lines accepted : List (List ℕ)} {b : Built} (g : Grows (start_of t) lines accepted b)
-    {line : List ℕ} (i : In line accepted) {c : ℕ} (code : code_point (field 0 line) ≡ some c) where
+    {line : List ℕ} (i : In line accepted) {c : ℕ} (code : code_point (field 0 line) ≡ Some c) where
   -- what the line says, and that the table has it
   abbrev said : Properties
   said = (built-says g line i).0
@@ -61,11 +61,11 @@ module _ {t : Table} {lines accepted : List (List ℕ)} {b : Built} (g : Grows (
   holds = rw (code-said says code) at (built-gives g line said i says).0
 
   -- field 12's
-  pub built-uppercase : (u : ℕ) → field 14 line ≡ [] → code_point (field 12 line) ≡ some u → (mapping_of (cut b)).title c ≡ u
+  pub built-uppercase : (u : ℕ) → field 14 line ≡ [] → code_point (field 12 line) ≡ Some u → (mapping_of (cut b)).title c ≡ u
   built-uppercase u e f = holds ∙ says-uppercase says u e f
 
   -- field 14's
-  pub built-titlecase : (u : ℕ) → code_point (field 14 line) ≡ some u → (mapping_of (cut b)).title c ≡ u
+  pub built-titlecase : (u : ℕ) → code_point (field 14 line) ≡ Some u → (mapping_of (cut b)).title c ≡ u
   built-titlecase u e = holds ∙ says-titlecase says u e
 
   -- itself
@@ -77,10 +77,10 @@ module _ {t : Table} {lines accepted : List (List ℕ)} {b : Built} (g : Grows (
 -- a line with code point c and parts ps gets 25 exactly when none before it applies, and it maps c so, with a surrogate or, by
 -- request 4, where c is a syllable
 module _ (b : Built) (line : List ℕ) {c : ℕ} {ps : List ℕ}
-    (code : code_point (field 0 line) ≡ some c) (parts : decomposition (field 5 line) ≡ some ps) where
+    (code : code_point (field 0 line) ≡ Some c) (parts : decomposition (field 5 line) ≡ Some ps) where
   -- by the titlecase that the line says
   taken : (t : ℕ) → ((p : Properties) → LineSays line p → p.title ≡ t)
-      → (line_refusal b line ≡ some (refusal 25 0 0)) ↔ (Clear (fault28 b ∷ reading_faults line) × MapsBarred c t ps)
+      → (line_refusal b line ≡ Some (refusal 25 0 0)) ↔ (Clear (fault28 b ∷ reading_faults line) × MapsBarred c t ps)
   taken t title = Iff.trans (number-25 b line) (λ h. (h.0, by-fields h.1), λ h. (h.0, by-line h.0.1 h.1))
     where
       by-fields : SaysBarred line → MapsBarred c t ps
@@ -107,18 +107,18 @@ module _ (b : Built) (line : List ℕ) {c : ℕ} {ps : List ℕ}
           }
 
   -- to field 12's, where field 14 is empty
-  pub barred-uppercase : (u : ℕ) → field 14 line ≡ [] → code_point (field 12 line) ≡ some u
-      → (line_refusal b line ≡ some (refusal 25 0 0)) ↔ (Clear (fault28 b ∷ reading_faults line) × MapsBarred c u ps)
+  pub barred-uppercase : (u : ℕ) → field 14 line ≡ [] → code_point (field 12 line) ≡ Some u
+      → (line_refusal b line ≡ Some (refusal 25 0 0)) ↔ (Clear (fault28 b ∷ reading_faults line) × MapsBarred c u ps)
   barred-uppercase u e f = taken u (λ p s. says-uppercase s u e f)
 
   -- to field 14's, where that is filled: a surrogate in field 12 beside it is no fault
-  pub barred-titlecase : (t : ℕ) → code_point (field 14 line) ≡ some t
-      → (line_refusal b line ≡ some (refusal 25 0 0)) ↔ (Clear (fault28 b ∷ reading_faults line) × MapsBarred c t ps)
+  pub barred-titlecase : (t : ℕ) → code_point (field 14 line) ≡ Some t
+      → (line_refusal b line ≡ Some (refusal 25 0 0)) ↔ (Clear (fault28 b ∷ reading_faults line) × MapsBarred c t ps)
   barred-titlecase t e = taken t (λ p s. says-titlecase s t e)
 
   -- to itself, where both are empty
   pub barred-itself : field 14 line ≡ [] → field 12 line ≡ []
-      → (line_refusal b line ≡ some (refusal 25 0 0)) ↔ (Clear (fault28 b ∷ reading_faults line) × MapsBarred c c ps)
+      → (line_refusal b line ≡ Some (refusal 25 0 0)) ↔ (Clear (fault28 b ∷ reading_faults line) × MapsBarred c c ps)
   barred-itself e f = taken c (λ p s. says-itself s e f ∙ code-said s code)
 
 -- ---- "Refusals: 29, field 12 malformed, checked even when 14 is filled, between 23 and 24."

@@ -3,12 +3,13 @@
 -- `write_key` say of the answer r and of the slice t that is left (Contracts.antt has the ties). Each fixes its call's answer.
 -- Request02Refusals.antt has the sentences on refusals.
 -- Assumes nothing.
+use Rattle.std.specs.Prelude.{Result, Ok, Err}
 use mathlib.Core.Path.{◌≡◌, refl, sym, ap, subst, subst₂, ◌∙◌}
 use Prim.Native.Nat.{ℕ, ◌+◌, ◌-◌, ◌≤◌, ◌<◌}
 use native.Mathlib.Omega.{arith}
 use mathlib.Core.Bool.{true}
 use mathlib.Core.Logic.{◌⊎◌, inl, inr, ◌↔◌}
-use mathlib.Core.Option.{some}
+use Rattle.std.specs.Prelude.{Some}
 use mathlib.Core.List.{List, [], ◌∷◌, ◌++◌, append_assoc, append-nil}
 use lib.ListN.{length, take, drop, length-append}
 use lib.Seq.{slice, length-slice}
@@ -25,17 +26,14 @@ use Rattle.keys.specs.declared.Summary.{Summary}
 use Rattle.pages.specs.Pages.{Pages}
 use Rattle.prepare.specs.Calls.{Lent, call}
 use Rattle.prepare.specs.Preparing.{shown_key, Prepares}
-use Rattle.prepare.specs.declared.Preparation.{Preparation}
-use Rattle.prepare.specs.declared.Preparation.TheVariants.{Prepared}
+use Rattle.prepare.specs.Preparing.{Preparation}
 use Rattle.records.specs.Numbers.{little_endian, Octets}
 use Rattle.records.specs.Items.{rules, Item, of_text, of_key, fits, field_octets, framed, record_of}
 use Rattle.records.specs.Reading.{end, stopped, read_at}
 use Rattle.records.specs.Writing.{Writes}
 use Rattle.records.specs.declared.KeyFields.{KeyFields}
 use Rattle.records.specs.declared.Record.{Record}
-use Rattle.records.specs.declared.Record.TheVariants.{End, Refused}
-use Rattle.records.specs.declared.Written.{Written}
-use Rattle.records.specs.declared.Written.TheVariants.{Upto}
+use Rattle.records.specs.declared.Record.TheVariants.{End}
 use Rattle.records.proofs.Lengths.{length-field_octets, length-kind-body}
 use Rattle.records.proofs.Framing.{read_at-end, read_at-ends, read_at-past}
 use Rattle.records.proofs.ReadsWritten.{read_at-written}
@@ -56,9 +54,9 @@ use Rattle.demands.proofs.RecordRuns.{reads-each, reads-from, writes-all, run}
 
 -- every key that a preparation gives can be kept: no record of it is refused with 13 (`write-13`)
 pub prepared-kept : {n : ℕ} {k : Collation} {t : Table} {pg : Pages} {l : Lent} {r : Preparation} {after : List ℕ}
-    → collation_of n ≡ some k
-    → Prepares (call (some k) t pg (l ∷ [])) r after
-    → (s : Summary) → r ≡ Prepared s
+    → collation_of n ≡ Some k
+    → Prepares (call (Some k) t pg (l ∷ [])) r after
+    → (s : Summary) → r ≡ Ok s
     → Unfit (of_key (fields_for n (truth s.valid) l.text) (shown_key r l.text after)) → ⊥
 prepared-kept {n} {k} {t} {pg} {l} named h s e =
     let told = numbers-are h e in
@@ -84,7 +82,7 @@ key-record f k =
     in
     rw n (simp append_assoc)
 
-module _ (i : Item) {p : ℕ} {s t : List ℕ} {q : RecordPosition} (w : Writes i p s (Upto q) t) where
+module _ (i : Item) {p : ℕ} {s t : List ℕ} {q : RecordPosition} (w : Writes i p s (Ok q) t) where
   stands : Stands i p s t q.0
   stands = writes-given i p s t q w
 
@@ -102,7 +100,7 @@ module _ (i : Item) {p : ℕ} {s t : List ℕ} {q : RecordPosition} (w : Writes 
   -- ---- "Writer and reader, each undoing the other,"
 
   -- reading what was written gives the item and the position after it
-  pub written-reads : (x : Record) → ReadCall t p x → GivesItem t x i q.0
+  pub written-reads : (x : Result Record Refusal) → ReadCall t p x → GivesItem t x i q.0
   written-reads x call =
       let here : drop p t ≡ record_of i ++ drop (length (record_of i)) (drop p s) =
       ap (drop p) stands.left ∙ drop-put_at p (record_of i) s (omega (arith, stands.room))
@@ -111,25 +109,25 @@ module _ (i : Item) {p : ℕ} {s t : List ℕ} {q : RecordPosition} (w : Writes 
       rw stands.upto (reads-item t p x call i (p + length (record_of i)) read)
 
 -- writing what was read gives the same octets, in any slice and at any position that has room for them
-module _ (s : List ℕ) (p : ℕ) (x : Record) (call : ReadCall s p x) (i : Item) (q : ℕ) (given : GivesItem s x i q)
+module _ (s : List ℕ) (p : ℕ) (x : Result Record Refusal) (call : ReadCall s p x) (i : Item) (q : ℕ) (given : GivesItem s x i q)
     (octets : Octets s) where
   item_of : GivenItem s p i q
   item_of = given-item s p x call i q given octets
 
-  pub read-writes : (b : List ℕ) (at : ℕ) → at + (q - p) ≤ length b → (y : Written) (t : List ℕ) → Writes i at b y t
-      → (y ≡ Upto (record { 0 = at + (q - p) })) × (t ≡ put_at at (slice p q s) b)
+  pub read-writes : (b : List ℕ) (at : ℕ) → at + (q - p) ≤ length b → (y : Result RecordPosition Refusal) (t : List ℕ) → Writes i at b y t
+      → (y ≡ Ok (record { 0 = at + (q - p) })) × (t ≡ put_at at (slice p q s) b)
   read-writes b at room y t w =
       let same = writes-same i w (writes-room i at b item_of.fit (omega (arith, item_of.long))) in (
-        same.0 ∙ ap (λ (n : ℕ). Upto (record { 0 = at + n })) item_of.long,
+        same.0 ∙ ap (λ (n : ℕ). Ok (record { 0 = at + n })) item_of.long,
         same.1 ∙ ap (λ (xs : List ℕ). put_at at xs b) item_of.octets,
       )
 
   -- so written again where it was read it leaves the slice as it is
-  pub read-writes-back : (y : Written) (t : List ℕ) → Writes i p s y t → (y ≡ Upto (record { 0 = q })) × (t ≡ s)
+  pub read-writes-back : (y : Result RecordPosition Refusal) (t : List ℕ) → Writes i p s y t → (y ≡ Ok (record { 0 = q })) × (t ≡ s)
   read-writes-back y t w =
       let upto : p + (q - p) ≡ q = omega (arith, item_of.onward) in
       let same = read-writes s p (omega (arith, item_of.within, item_of.onward)) y t w in (
-        same.0 ∙ ap (λ (n : ℕ). Upto (record { 0 = n })) upto,
+        same.0 ∙ ap (λ (n : ℕ). Ok (record { 0 = n })) upto,
         same.1 ∙ put_at-same p q s (omega (arith, item_of.onward)) item_of.within,
       )
 
@@ -185,26 +183,26 @@ each-read-writes-back {s} {p} {q} {items} octets h r =
 -- ---- "at its end the reader says so,"
 
 -- it says so there, and nowhere else
-pub end-exactly : (s : List ℕ) (p : ℕ) (x : Record) → ReadCall s p x → (x ≡ End) ↔ (p ≡ length s)
+pub end-exactly : (s : List ℕ) (p : ℕ) (x : Result Record Refusal) → ReadCall s p x → (x ≡ Ok End) ↔ (p ≡ length s)
 end-exactly s p x call = (
   λ e. read_at-ends rules s p (end_read s p x call e),
   λ e. reads_end s p x call (read_at-end rules s p e),
 )
 
 -- and reading comes there: each record ends six octets further at least, and within the slice
-pub read-onward : (s : List ℕ) (p : ℕ) (x : Record) → ReadCall s p x → (i : Item) (q : ℕ) → GivesItem s x i q
+pub read-onward : (s : List ℕ) (p : ℕ) (x : Result Record Refusal) → ReadCall s p x → (i : Item) (q : ℕ) → GivesItem s x i q
     → (p + 6 ≤ q) × (q ≤ length s)
 read-onward s p x call i q given = found-next rules s p i q (read_at-found rules s p i q (item-read s p x call i q given))
 
 -- from any position of any slice reading goes on, to a position where the next call says the end or refuses
 pub read-on : (s : List ℕ) (p : ℕ)
     → (items : List Item) × (q : ℕ) × ReadsEach s p items q
-    × ((x : Record) → ReadCall s q x → (x ≡ End) ⊎ ((y : Refusal) × (x ≡ Refused y)))
+    × ((x : Result Record Refusal) → ReadCall s q x → (x ≡ Ok End) ⊎ ((y : Refusal) × (x ≡ Err y)))
 read-on s p = let r = run s p in (r.items, r.last, r.reads, λ x call. told x call r.stops)
   where
-    told : (x : Record) → ReadCall s (run s p).last x
+    told : (x : Result Record Refusal) → ReadCall s (run s p).last x
         → (read_at rules s (run s p).last ≡ end) ⊎ ((y : Refusal) × (read_at rules s (run s p).last ≡ stopped y))
-        → (x ≡ End) ⊎ ((y : Refusal) × (x ≡ Refused y))
+        → (x ≡ Ok End) ⊎ ((y : Refusal) × (x ≡ Err y))
     told x call (inl e) = inl (reads_end s (run s p).last x call e)
     told x call (inr e) = inr (e.0, reads-stopped s (run s p).last x call e.0 e.1)
 
@@ -218,11 +216,11 @@ read_whole items fit =
 
 -- so is a slice that was written up to its end, from any of its positions, and then the reader says so
 pub each-to-end : {s t : List ℕ} {p : ℕ} (before after : List Item) → WritesEach s p (before ++ after) t (length t)
-    → (m : ℕ) × ReadsEach t p before m × ReadsEach t m after (length t) × ((x : Record) → ReadCall t (length t) x → x ≡ End)
+    → (m : ℕ) × ReadsEach t p before m × ReadsEach t m after (length t) × ((x : Result Record Refusal) → ReadCall t (length t) x → x ≡ Ok End)
 each-to-end {t = t} before after w =
     let parts = each-from-any before after w in
     (parts.0, parts.1, parts.2, λ x call. (end-exactly t (length t) x call).1 refl)
 
 -- "past it is 11."
-pub past-is-11 : (s : List ℕ) (p : ℕ) (x : Record) → ReadCall s p x → length s < p → x ≡ Refused (refusal 11 0 0)
+pub past-is-11 : (s : List ℕ) (p : ℕ) (x : Result Record Refusal) → ReadCall s p x → length s < p → x ≡ Err (refusal 11 0 0)
 past-is-11 s p x call h = reads-stopped s p x call (refusal 11 0 0) (read_at-past rules s p h)

@@ -2,17 +2,17 @@
 -- `find_shared` or of its accepted twin by its contract (`ShareCall`), over any lists, any table and slices of any
 -- lengths, that was not refused. Request03Refusals.antt has its sentences on refusals.
 -- Assumes nothing.
+use Rattle.std.specs.Prelude.{Ok}
 use mathlib.Core.Path.{◌≡◌, refl, ap, ◌∙◌}
 use Prim.Native.Nat.{Ordering}
-use Prim.Native.Nat.{ℕ, zero, suc, ◌-◌, ◌≤◌, ◌<◌}
+use Prim.Native.Nat.{ℕ, suc, ◌-◌, ◌≤◌, ◌<◌}
 use native.Mathlib.Omega.{arith}
-use mathlib.Core.Bool.{not, cond}
+use mathlib.Core.Bool.{true, not, cond}
 use mathlib.Core.Logic.{◌↔◌}
-use mathlib.Core.Option.{none, some}
+use Rattle.std.specs.Prelude.{None, Some}
 use mathlib.Core.List.{List, [], ◌∷◌, ◌++◌, map}
 use lib.Dec.{eqb}
-use lib.ListN.{length, take, drop, get_or, length-map, get_or-append}
-use lib.Seq.{take_at}
+use lib.ListN.{length, take, get_or}
 use Rattle.terms.specs.Lists.{empty, over, same, total}
 use Rattle.terms.specs.Refusals.{gives}
 use Rattle.terms.specs.declared.Collation.{Collation}
@@ -22,15 +22,13 @@ use Rattle.table.specs.Mapping.{Mapping}
 use Rattle.table.specs.Table.{mapping_of}
 use Rattle.keys.specs.Keys.{key_of, prepared}
 use Rattle.compare.specs.Compare.{EqualSays}
-use Rattle.compare.specs.declared.Equality.{Equality}
-use Rattle.compare.specs.declared.Equality.TheVariants.{Match}
+use Rattle.compare.specs.Compare.{Equality}
 use Rattle.compare.proofs.Preorder.{matches-tie}
 use Rattle.partners.specs.Partners.{those, equal_to, equal_pairs_of, partnered, partner_of, key_positions}
 use Rattle.partners.proofs.Meaning as meaning
 use Rattle.lists.specs.Names.{names_in}
 use Rattle.storing.specs.Stored.{joined}
 use Rattle.lists.specs.Lists.{ListsCall, first_keys, second_keys, lists_refusal, shared_values, slices_after}
-use Rattle.lists.specs.declared.Shared.TheVariants.{Found}
 use Rattle.lists.specs.declared.Totals.{Totals}
 use Rattle.demands.specs.Lists.{ShareCall, Names, Listed}
 use Rattle.demands.proofs.ListFaults.{names-are}
@@ -39,15 +37,15 @@ use Rattle.demands.proofs.Partnering.{partner-none, partner-lowest, positions-ta
 use Rattle.demands.proofs.Partnering.{positions-rise, positions-tied}
 
 module _ {c : ListsCall} {t : Totals} {store partners positions : List ℕ}
-    (call : ShareCall c (Found t) (store ∷ partners ∷ positions ∷ [])) where
+    (call : ShareCall c (Ok t) (store ∷ partners ∷ positions ∷ [])) where
   -- no check applied
-  unrefused : lists_refusal c ≡ none
+  unrefused : lists_refusal c ≡ None
   unrefused = answer-given (lists_refusal c) (shared_values c) _ call.answered
 
   told : gives (t.first_names ∷ t.second_names ∷ t.equal_pairs ∷ t.partnered ∷ []) ≡ gives (shared_values c)
   told = rw unrefused at call.answered
 
-  left : store ∷ partners ∷ positions ∷ [] ≡ slices_after none c
+  left : store ∷ partners ∷ positions ∷ [] ≡ slices_after None c
   left = rw unrefused at call.left
 
   -- ---- "I hold two lists of kind 1 records before every fit."
@@ -151,13 +149,13 @@ module _ {c : ListsCall} {t : Totals} {store partners positions : List ℕ}
 
 -- two names have one key exactly when `equal` answers Match of them, over the same table and under the same collation
 pub names-equal : (k : Collation) (m : Mapping) (t u : List ℕ) {r : Equality} → EqualSays (prepared k m t) (prepared k m u) r
-    → (r ≡ Match) ↔ (key_of k m t ≡ key_of k m u)
+    → (r ≡ Ok true) ↔ (key_of k m t ≡ key_of k m u)
 names-equal k m t u e = matches-tie e
 
 -- ---- "first list's names" and their keys
 
 -- the key at a place is that of the name at the place
-pub keys-of-names : (c : ListsCall) (k : Collation) → c.collation ≡ some k → {ts us : List (List ℕ)}
+pub keys-of-names : (c : ListsCall) (k : Collation) → c.collation ≡ Some k → {ts us : List (List ℕ)}
     → Names c.first_list 0 ts
     → Names c.second_list 0 us
     → (first_keys c ≡ map (key_of k (mapping_of c.table)) ts) × (second_keys c ≡ map (key_of k (mapping_of c.table)) us)

@@ -1,12 +1,13 @@
 -- Document 02, request 3 (which names two lists share), its sentences on refusals, each with the theorems that render it;
 -- they take what those of Request03.antt take.
 -- Assumes nothing.
+use Rattle.std.specs.Prelude.{Err}
 use mathlib.Core.Path.{◌≡◌, refl}
 use Prim.Native.Nat.{ℕ, ◌<◌}
 use native.Mathlib.Omega.{arith}
 use mathlib.Core.Logic.Iff
 use mathlib.Core.Logic.{◌⊎◌, ◌↔◌, true-and}
-use mathlib.Core.Option.{none, some}
+use Rattle.std.specs.Prelude.{None, Some}
 use mathlib.Core.List.{List, [], ◌∷◌}
 use lib.ListN.{length}
 use Rattle.terms.specs.Refusals.{refusal}
@@ -16,8 +17,7 @@ use Rattle.records.specs.Items.{list_rules}
 use Rattle.records.specs.Reading.{body_in, stopped, read_at}
 use Rattle.lists.specs.Names.{names_in, list_fault}
 use Rattle.lists.specs.Lists.{ListsCall, lists_refusal, shared_values}
-use Rattle.lists.specs.declared.Shared.{Shared}
-use Rattle.lists.specs.declared.Shared.TheVariants.{Refused}
+use Rattle.lists.specs.Lists.{Shared}
 use Rattle.lists.proofs.Injective.{shared_outcome-inj}
 use Rattle.demands.specs.Faults.{Clear, FirstFault, plain}
 use Rattle.demands.specs.Records.{TooFew, following_at, fault11}
@@ -31,28 +31,28 @@ use Rattle.demands.proofs.ListCalls.{refused-words, words-refused}
 
 module _ {c : ListsCall} {r : Shared} {after : List (List ℕ)} (call : ShareCall c r after) where
   -- a call is refused exactly when one of these is so, each where those before it are not, with that number, place and detail
-  pub shared-refused : (x : Refusal) → (r ≡ Refused x) ↔ ListsRefused c x
+  pub shared-refused : (x : Refusal) → (r ≡ Err x) ↔ ListsRefused c x
   shared-refused x = (
     λ e. words-refused c x (answer-refused (lists_refusal c) (shared_values c) x (rw e at call.answered)),
-    λ w. shared_outcome-inj r (Refused x) (rw (refused-words c x w) at call.answered),
+    λ w. shared_outcome-inj r (Err x) (rw (refused-words c x w) at call.answered),
   )
 
   -- "On refusal .. no lent buffer changes" (demand 1)
-  pub shared_kept : (x : Refusal) → r ≡ Refused x → after ≡ c.store ∷ c.partners ∷ c.positions ∷ []
+  pub shared_kept : (x : Refusal) → r ≡ Err x → after ≡ c.store ∷ c.partners ∷ c.positions ∷ []
   shared_kept x e =
       rw (answer-refused (lists_refusal c) (shared_values c) x (rw e at call.answered)) at call.left
 
 -- ---- "11 to 13 .., record by record"
 
 -- a list has these names exactly when it has no refusal and these are its names
-pub list-names : (list : List ℕ) (ts : List (List ℕ)) → ((list_fault list ≡ none) × (names_in list ≡ ts)) ↔ Names list 0 ts
+pub list-names : (list : List ℕ) (ts : List (List ℕ)) → ((list_fault list ≡ None) × (names_in list ≡ ts)) ↔ Names list 0 ts
 list-names list ts = (
   λ e. rw (← e.1) (names-there list e.0),
   λ n. let a = names-are n (omega arith) in (a.1, a.0),
 )
 
 -- and a refusal exactly when a record has it, and those before it are names
-pub list-faulty : (list : List ℕ) (x : Refusal) → (list_fault list ≡ some x) ↔ Faulty list 0 x
+pub list-faulty : (list : List ℕ) (x : Refusal) → (list_fault list ≡ Some x) ↔ Faulty list 0 x
 list-faulty list x = (λ e. faulty-there list x e, λ f. faulty-is f (omega arith))
 
 module _ (list : List ℕ) (p : ℕ) (inside : p ≡ length list → ⊥) where

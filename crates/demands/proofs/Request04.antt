@@ -1,21 +1,21 @@
 -- Document 02, request 4 (Hangul), each sentence with the theorems that render it; they take what the theorems of the demands
 -- take (Demand1.antt says what).
 -- Assumes nothing.
+use Rattle.terms.specs.declared.Refusal.{Refusal}
+use Rattle.std.specs.Prelude.{Result, Ok, ⊤}
 use mathlib.Core.Path.{◌≡◌, refl, sym, ap, ap₂, ◌∙◌}
 use Prim.Native.Nat.{ℕ, suc, ◌+◌, ◌-◌, ◌/◌, ◌%◌, ◌≤◌, ◌<◌}
 use mathlib.Core.Bool.{Bool, true, false, cond, ◌&&◌, true≢false}
-use mathlib.Core.Logic.{◌↔◌, inl, inr}
-use mathlib.Core.Option.{none, some}
-use mathlib.Core.List.{List, [], ◌∷◌, ◌++◌, map, append-nil}
+use mathlib.Core.Logic.{inl, inr}
+use Rattle.std.specs.Prelude.{None, Some}
+use mathlib.Core.List.{List, [], ◌∷◌, ◌++◌, append-nil}
 use lib.Dec.{leb}
 use borrow.Author.Tests.{leb-true}
 use Rattle.terms.specs.CodePoints.{scalar}
-use Rattle.terms.specs.Lists.{all, empty, each, total, In}
+use Rattle.terms.specs.Lists.{all, empty, each, total}
 use Rattle.terms.specs.Refusals.{refusal, Given, check_outcome}
-use Rattle.terms.specs.declared.Check.{Check}
-use Rattle.terms.specs.declared.Check.TheVariants.{Passed}
 use Rattle.terms.specs.declared.Collation.TheVariants.{UnicodeCasemap}
-use Rattle.terms.proofs.Lists.{all_first, all_rest, all_cons, all-each, all-mono, each_append}
+use Rattle.terms.proofs.Lists.{all_cons, all-each, all-mono, each_append}
 use Rattle.terms.proofs.Tests.{both}
 use Rattle.hangul.specs.Hangul.{syllable, syllable_parts}
 use Rattle.hangul.proofs.Syllables.{parts-two, parts-three, parts-scalar}
@@ -23,23 +23,22 @@ use Rattle.table.specs.Layout.{entry_count, code_at}
 use Rattle.table.specs.Mapping.{Mapping}
 use Rattle.table.specs.Table.{Table, form_refusal, mapping_of}
 use Rattle.table.proofs.Form.{parts_of-syllable, formed-code}
-use Rattle.utf8.specs.Utf8.{Character, encode, encodes, characters, as_characters}
+use Rattle.utf8.specs.Utf8.{encodes, as_characters}
 use Rattle.utf8.proofs.Characters.{characters-encodes}
 use Rattle.decompose.specs.Levels.{Level, Highest, asks}
 use Rattle.decompose.specs.Steps.{expanded, lookups, steps_key}
-use Rattle.decompose.specs.TableCheck.{table_refusal, table_answer, UnfoldsWell, SyllableUnsound}
+use Rattle.decompose.specs.TableCheck.{table_refusal, table_answer, UnfoldsWell}
 use Rattle.decompose.proofs.SyllableSteps.{syllable-level, syllable-level-one, lookups-syllable, expanded-syllable}
 use Rattle.keys.specs.Keys.{key_of}
 use Rattle.keys.proofs.Validity.{key-valid}
 use Rattle.pages.specs.Pages.{Pages}
 use Rattle.prepare.specs.Calls.{Lent, call, Called}
 use Rattle.compare.specs.Compare.{equality_outcome, equality_values}
-use Rattle.compare.specs.declared.Equality.{Equality}
-use Rattle.compare.specs.declared.Equality.TheVariants.{Match}
+use Rattle.compare.specs.Compare.{Equality}
 use Rattle.ucd.specs.Lines.{Properties, LineSays}
 use Rattle.builder.specs.Builder.{Built, line_refusal}
 use Rattle.demands.specs.Demands.{in_jamo}
-use Rattle.demands.specs.Faults.{Syllable, HasMapping, Clear, fault3, fault28, LowestAt, WrongCode, reading_faults}
+use Rattle.demands.specs.Faults.{Syllable, HasMapping, Clear, fault3, fault28, WrongCode, reading_faults}
 use Rattle.demands.proofs.TableFaults.{syllable-exactly}
 use Rattle.demands.proofs.Demand1.{number-4, number-7, number-25}
 use Rattle.demands.proofs.Demand2.{equal-keys, equal-says}
@@ -48,7 +47,7 @@ use Rattle.demands.proofs.Demand3.{check-every}
 -- ---- "Korean names in syllables don't meet the same names in jamo"
 
 -- a code point that is written in jamo becomes what it becomes by itself
-one-meets : (t : Table) → table_refusal t ≡ none → ((j : ℕ) → 0x1100 ≤ j → j ≤ 0x11C2 → (mapping_of t).title j ≡ j)
+one-meets : (t : Table) → table_refusal t ≡ None → ((j : ℕ) → 0x1100 ≤ j → j ≤ 0x11C2 → (mapping_of t).title j ≡ j)
     → (c : ℕ) → each (λ p. expanded (mapping_of t) p) (cond (syllable c) (syllable_parts c) (c ∷ [])) ≡ expanded (mapping_of t) c
 unfolding each
 one-meets t ok own c = go (syllable c) refl
@@ -64,7 +63,7 @@ one-meets t ok own c = go (syllable c) refl
     go false other = append-nil (expanded (mapping_of t) c)
 
 -- so a list of them does
-all_meet : (t : Table) → table_refusal t ≡ none → ((j : ℕ) → 0x1100 ≤ j → j ≤ 0x11C2 → (mapping_of t).title j ≡ j)
+all_meet : (t : Table) → table_refusal t ≡ None → ((j : ℕ) → 0x1100 ≤ j → j ≤ 0x11C2 → (mapping_of t).title j ≡ j)
     → (cs : List ℕ) → each (λ p. expanded (mapping_of t) p) (in_jamo cs) ≡ each (λ p. expanded (mapping_of t) p) cs
 unfolding each
 all_meet t ok own [] = refl
@@ -93,7 +92,7 @@ jamo-scalar cs e =
 
 -- now they do: over every accepted table in which the jamo are their own titlecases, as in the published one, a name and the same
 -- name with each syllable in jamo have one key, so that every call on keys takes them for one
-pub syllables-meet : (t : Table) → table_refusal t ≡ none → ((j : ℕ) → 0x1100 ≤ j → j ≤ 0x11C2 → (mapping_of t).title j ≡ j)
+pub syllables-meet : (t : Table) → table_refusal t ≡ None → ((j : ℕ) → 0x1100 ≤ j → j ≤ 0x11C2 → (mapping_of t).title j ≡ j)
     → (cs : List ℕ) → all scalar cs ≡ true
     → key_of UnicodeCasemap (mapping_of t) (encodes (in_jamo cs)) ≡ key_of UnicodeCasemap (mapping_of t) (encodes cs)
 syllables-meet t ok own cs e =
@@ -106,11 +105,11 @@ syllables-meet t ok own cs e =
 
 -- so a call of `equal` on the two answers that they match, where it is not refused
 pub names-meet : {t : Table} {pg : Pages} {l m : Lent} {r : Equality} {after : List (List ℕ)}
-    → Called equality_outcome equality_values (call (some UnicodeCasemap) t pg (l ∷ m ∷ [])) r after → Given (equality_outcome r)
-    → table_refusal t ≡ none
+    → Called equality_outcome equality_values (call (Some UnicodeCasemap) t pg (l ∷ m ∷ [])) r after → Given (equality_outcome r)
+    → table_refusal t ≡ None
     → ((j : ℕ) → 0x1100 ≤ j → j ≤ 0x11C2 → (mapping_of t).title j ≡ j)
     → (cs : List ℕ) → all scalar cs ≡ true → l.text ≡ encodes (in_jamo cs) → m.text ≡ encodes cs
-    → r ≡ Match
+    → r ≡ Ok true
 names-meet {t} h answers ok own cs e first second =
     let key : List ℕ → List ℕ = λ text. key_of UnicodeCasemap (mapping_of t) text in
     (equal-keys (equal-says h answers)).1 (ap key first ∙ syllables-meet t ok own cs e ∙ sym (ap key second))
@@ -144,7 +143,7 @@ module _ (t : Table) (c : ℕ) (is : Syllable c) where
   -- ---- "parts are asked like any others."
 
   -- one ask for the titlecase, one for the decomposition, and those of each part
-  pub lookups-jamo : table_refusal t ≡ none
+  pub lookups-jamo : table_refusal t ≡ None
       → lookups (mapping_of t) c ≡ suc (suc (total (λ p. asks (mapping_of t) 8 p) ((mapping_of t).parts c)))
   lookups-jamo ok =
       lookups-syllable t ok c by-test
@@ -155,16 +154,16 @@ module _ (t : Table) (c : ℕ) (is : Syllable c) where
 
 -- a table that `check_table` passes unfolds every syllable well (and `check-accepts` of Demand3.antt says that it passes exactly
 -- where every entry and every syllable does, and the form holds)
-pub check-syllables : (t : Table) {r : Check} → check_outcome r ≡ table_answer t → r ≡ Passed
+pub check-syllables : (t : Table) {r : Result ⊤ Refusal} → check_outcome r ≡ table_answer t → r ≡ Ok tt
     → (c : ℕ) → Syllable c → UnfoldsWell (mapping_of t) c
 check-syllables t h e c is = check-every t h e c
 
 -- ---- "if no entry is at fault but a syllable is, the detail is the number of entries."
 
-pub syllable-detail : (t : Table) → form_refusal t ≡ none
+pub syllable-detail : (t : Table) → form_refusal t ≡ None
     → ((i : ℕ) → i < entry_count t.entries → UnfoldsWell (mapping_of t) (code_at t.entries i))
     → (c : ℕ) → Syllable c → (UnfoldsWell (mapping_of t) c → ⊥)
-    → table_refusal t ≡ some (refusal 7 0 (entry_count t.entries))
+    → table_refusal t ≡ Some (refusal 7 0 (entry_count t.entries))
 syllable-detail t form sound c is unsound =
     (number-7 t (entry_count t.entries)).1 (
       form,
@@ -182,12 +181,12 @@ syllable-detail t form sound c is unsound =
 -- where 3 doesn't apply and it is the lowest at fault, 4 names it
 pub syllable-entry : (t : Table) (i : ℕ) → Clear (fault3 t ∷ []) → i < entry_count t.entries → Syllable (code_at t.entries i)
     → ((j : ℕ) → j < i → WrongCode t.entries j → ⊥)
-    → table_refusal t ≡ some (refusal 4 0 i)
+    → table_refusal t ≡ Some (refusal 4 0 i)
 syllable-entry t i clear l is lower =
     (number-4 t i).1 (clear, record { below = l; here = inr (inr (inl is)); lower = lower })
 
 -- no table of the form has one
-pub syllable-no-entry : (t : Table) → form_refusal t ≡ none → (i : ℕ) → i < entry_count t.entries
+pub syllable-no-entry : (t : Table) → form_refusal t ≡ None → (i : ℕ) → i < entry_count t.entries
     → Syllable (code_at t.entries i) → ⊥
 syllable-no-entry t form i l is =
     true≢false (sym ((syllable-exactly (code_at t.entries i)).1 is) ∙ formed-code t form i l)
@@ -196,6 +195,6 @@ syllable-no-entry t form i l is =
 
 pub syllable-line : (b : Built) (line : List ℕ) → Clear (fault28 b ∷ reading_faults line)
     → (p : Properties) → LineSays line p → HasMapping p → Syllable p.code
-    → line_refusal b line ≡ some (refusal 25 0 0)
+    → line_refusal b line ≡ Some (refusal 25 0 0)
 syllable-line b line clear p says mapping is =
     (number-25 b line).1 (clear, record { said = p; says = says; mapping = mapping; barred = inr is })

@@ -5,11 +5,10 @@
 use mathlib.Core.Path.{◌≡◌, refl, sym, ap, ◌∙◌}
 use Prim.Native.Nat.{ℕ, ◌+◌, ◌*◌, ◌/◌, ◌%◌, ◌^◌, ◌≤◌, ◌<◌}
 use native.Mathlib.Omega.{arith}
-use mathlib.Core.Bool.{Bool, true, false, true≢false}
+use mathlib.Core.Bool.{false}
 use mathlib.Core.Logic.{◌↔◌}
-use mathlib.Core.Option.{Option, none, some}
+use Rattle.std.specs.Prelude.{Option, None, Some}
 use mathlib.Core.List.{List}
-use lib.Count.{ones}
 use lib.ListN.{length, get_or, drop}
 use Rattle.terms.specs.Collations.{reads_table}
 use Rattle.terms.specs.Lists.{over}
@@ -17,18 +16,17 @@ use Rattle.terms.specs.Refusals.{refusal, Outcome, Given, refused}
 use Rattle.terms.specs.declared.Collation.{Collation}
 use Rattle.terms.specs.declared.Collation.TheVariants.{UnicodeCasemap}
 use Rattle.terms.specs.declared.Refusal.{Refusal}
-use Rattle.terms.proofs.Checks.{answer-given, answer-refused}
-use Rattle.terms.proofs.Parts.{length_over, drop-over}
+use Rattle.terms.proofs.Parts.{drop-over}
 use Rattle.table.specs.Layout.{entry_count, code_at}
 use Rattle.table.specs.Table.{Table, entry_of}
-use Rattle.table.proofs.Form.{formed-ascending, entry_of-some}
-use Rattle.pages.specs.Pages.{Pages, pages, presence_word, rank_of, up_to, filled, paged_place}
+use Rattle.table.proofs.Form.{formed-ascending}
+use Rattle.pages.specs.Pages.{Pages, presence_word, rank_of, up_to, filled, paged_place}
 use Rattle.pages.specs.Promises.{Parted}
 use Rattle.pages.proofs.Ranks.{listed, parted-all, rank_of-parted}
 use Rattle.pages.proofs.Paging.{presence-bit, digit-exactly, listed-exactly, paged-place, filled-paged, length-up_to, get_d-filled}
 use Rattle.decompose.specs.TableCheck.{table_refusal}
 use Rattle.decompose.proofs.Demand3.{accepted-form}
-use Rattle.prepare.specs.Calls.{Lent, Call, call, lengths, texts_refusal, ready_refusal, call_refusal, pages_after, Called}
+use Rattle.prepare.specs.Calls.{Lent, Call, call, lengths, texts_refusal, ready_refusal, call_refusal}
 use Rattle.prepare.specs.Calls.{CalledPaging, UsableBy}
 use Rattle.prepare.proofs.CallRefusals.{unrefused, passed-usable, unread-pages}
 use Rattle.demands.specs.Demands.{ShortPages}
@@ -49,7 +47,7 @@ bit-of-an-entry es page bit h = (
 -- ---- "the other with the number of entries before each page."
 
 -- of an accepted table the entries before a page are the first ones, as many as the page's number says
-pub number-of-a-page : (t : Table) → table_refusal t ≡ none → (page : ℕ) → Parted t.entries (page * 64) (rank_of t.entries page)
+pub number-of-a-page : (t : Table) → table_refusal t ≡ None → (page : ℕ) → Parted t.entries (page * 64) (rank_of t.entries page)
 number-of-a-page t ok page =
     let parted = parted-all t.entries (formed-ascending t (accepted-form t ok)) (page * 64) in
     rw (rank_of-parted page parted) parted
@@ -57,7 +55,7 @@ number-of-a-page t ok page =
 -- ---- "An entry's position is found from its bit: the rank is the count of ones below it, added to the page's number. Show that
 -- it answers as the old lookup for every accepted table and code point."
 
-pub pages-answer-as-before : (t : Table) → table_refusal t ≡ none
+pub pages-answer-as-before : (t : Table) → table_refusal t ≡ None
     → (p : Pages) → 17408 ≤ length p.presence → 17408 ≤ length p.ranks
     → (c : ℕ) → c ≤ 0x10FFFF → paged_place (filled t.entries p) c ≡ entry_of t.entries c
 pages-answer-as-before t ok p a b c h =
@@ -84,19 +82,19 @@ left-beyond es p = (beyond (presence_word es) p.presence, beyond (rank_of es) p.
 -- a call on texts: `prepare` (with its `call`), `equal`, `order`, `substring`
 module _ {R : Type 0} {outcome : R → Outcome} {values : Call → Option (List ℕ)} {t : Table} {pg : Pages} {ls : List Lent} {r : R}
     {after : List (List ℕ)} {left : Pages}
-    (h : CalledPaging outcome values (call (some UnicodeCasemap) t pg ls) r after left) where
-  filled-ready : ready_refusal (call (some UnicodeCasemap) t pg ls) ≡ none → left ≡ filled t.entries pg
+    (h : CalledPaging outcome values (call (Some UnicodeCasemap) t pg ls) r after left) where
+  filled-ready : ready_refusal (call (Some UnicodeCasemap) t pg ls) ≡ None → left ≡ filled t.entries pg
   filled-ready ready = rw ready at h.paged
 
   -- one that is not refused fills them
   pub texts-fill : Given (outcome r) → left ≡ filled t.entries pg
-  texts-fill g = filled-ready (unrefused (call (some UnicodeCasemap) t pg ls) (given-unrefused h.called g)).0
+  texts-fill g = filled-ready (unrefused (call (Some UnicodeCasemap) t pg ls) (given-unrefused h.called g)).0
 
   -- ---- "on 8 and later ones the pages stay filled,"
 
   pub texts-fill-on-8 : (x : Refusal) → outcome r ≡ refused x → x.number ≡ 8 → left ≡ filled t.entries pg
   texts-fill-on-8 x e eight =
-      filled-ready (eight-ready (call (some UnicodeCasemap) t pg ls) x ((call-refused h.called x).0 e) eight)
+      filled-ready (eight-ready (call (Some UnicodeCasemap) t pg ls) x ((call-refused h.called x).0 e) eight)
 
 -- ---- "which demand 1 now allows": on every other refusal no lent page changes
 
@@ -112,13 +110,13 @@ texts-keep {c = c} h x e other = rw (other-refused c x ((call-refused h.called x
 pub texts-leave : {R : Type 0} {outcome : R → Outcome} {values : Call → Option (List ℕ)} {k : Collation} {t : Table} {pg : Pages}
     {ls : List Lent} {r : R} {after : List (List ℕ)} {left : Pages}
     → reads_table k ≡ false
-    → CalledPaging outcome values (call (some k) t pg ls) r after left
+    → CalledPaging outcome values (call (Some k) t pg ls) r after left
     → left ≡ pg
 texts-leave {k = k} {t = t} {pg = pg} {ls = ls} unread h = h.paged ∙ unread-pages k t pg ls unread
 
 -- and answers alike, whichever were lent
 pub texts-untested : (k : Collation) → reads_table k ≡ false → (t : Table) (p q : Pages) (ls : List Lent)
-    → call_refusal (call (some k) t p ls) ≡ call_refusal (call (some k) t q ls)
+    → call_refusal (call (Some k) t p ls) ≡ call_refusal (call (Some k) t q ls)
 unfolding call_refusal
 texts-untested k unread t p q ls = rw unread refl
 
@@ -126,9 +124,9 @@ texts-untested k unread t p q ls = rw unread refl
 
 -- under collation 3, where none of 1 to 7 applies, 15 exactly when a page slice is too short: so 8 is looked for after it
 pub number-15 : (t : Table) (pg : Pages) (ls : List Lent)
-    → texts_refusal (some UnicodeCasemap) (lengths (call (some UnicodeCasemap) t pg ls)) ≡ none
-    → table_refusal t ≡ none
-    → (call_refusal (call (some UnicodeCasemap) t pg ls) ≡ some (refusal 15 0 0)) ↔ ShortPages pg
+    → texts_refusal (Some UnicodeCasemap) (lengths (call (Some UnicodeCasemap) t pg ls)) ≡ None
+    → table_refusal t ≡ None
+    → (call_refusal (call (Some UnicodeCasemap) t pg ls) ≡ Some (refusal 15 0 0)) ↔ ShortPages pg
 number-15 = fifteen-exactly
 
 -- ---- The `_accepted` calls are lent pages to read, and ask for what a public call over the same table left there.

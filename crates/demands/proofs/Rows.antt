@@ -6,7 +6,7 @@ use Prim.Native.Nat.{ℕ, zero, suc, ◌≤◌}
 use native.Mathlib.Omega.{arith}
 use mathlib.Core.Bool.{Bool, true, false}
 use mathlib.Core.Logic.{◌↔◌}
-use mathlib.Core.Option.{Option, none, some}
+use Rattle.std.specs.Prelude.{Option, None, Some}
 use mathlib.Core.List.{List, [], ◌∷◌, ◌++◌}
 use lib.Dec.{ltb}
 use lib.ListN.{length, replicate}
@@ -23,19 +23,19 @@ use Rattle.demands.specs.Demands.{FirstApplies, length_row, room_row, call_check
 
 -- ---- the first check that applies
 
-first_past : (n : ℕ) (x : Refusal) (rest : List (Option Refusal)) → first (replicate n none ++ some x ∷ rest) ≡ some x
+first_past : (n : ℕ) (x : Refusal) (rest : List (Option Refusal)) → first (replicate n None ++ Some x ∷ rest) ≡ Some x
 first_past zero x rest = refl
 first_past (suc n) x rest = first_past n x rest
 
-first_some : (checks : List (Option Refusal)) (x : Refusal) → first checks ≡ some x → FirstApplies checks x
+first_some : (checks : List (Option Refusal)) (x : Refusal) → first checks ≡ Some x → FirstApplies checks x
 first_some [] x e = absurd (none-some x e)
-first_some (none ∷ cs) x e =
+first_some (None ∷ cs) x e =
     let later = first_some cs x e in
-    record { passed = suc later.passed; rest = later.rest; row = ap (λ (l : List (Option Refusal)). none ∷ l) later.row }
-first_some (some y ∷ cs) x e = record { passed = 0; rest = cs; row = cc }
+    record { passed = suc later.passed; rest = later.rest; row = ap (λ (l : List (Option Refusal)). None ∷ l) later.row }
+first_some (Some y ∷ cs) x e = record { passed = 0; rest = cs; row = cc }
 
 -- a row gives the first of its checks that applies
-pub first-exactly : (checks : List (Option Refusal)) (x : Refusal) → (first checks ≡ some x) ↔ FirstApplies checks x
+pub first-exactly : (checks : List (Option Refusal)) (x : Refusal) → (first checks ≡ Some x) ↔ FirstApplies checks x
 first-exactly checks x = (first_some checks x, λ a. ap first a.row ∙ first_past a.passed x a.rest)
 
 -- ---- a call on texts
@@ -76,13 +76,13 @@ first-call_checks c =
 
 -- every refusal that a check gives is such
 abbrev pub Every : (Refusal → Type 0) → Option Refusal → Type 0
-Every P c = (x : Refusal) → c ≡ some x → P x
+Every P c = (x : Refusal) → c ≡ Some x → P x
 
 module _ (P : Refusal → Type 0) where
-  pub every-none : Every P none
+  pub every-none : Every P None
   every-none x e = absurd (none-some x e)
 
-  pub every_some : (y : Refusal) → P y → Every P (some y)
+  pub every_some : (y : Refusal) → P y → Every P (Some y)
   every_some y h x e = let same : y ≡ x = cc in subst P same h
 
   pub every-check : (b : Bool) (n p d : ℕ) → P (refusal n p d) → Every P (check b n p d)
@@ -90,8 +90,8 @@ module _ (P : Refusal → Type 0) where
   every-check false n p d h = every-none
 
   pub every-else : (c d : Option Refusal) → Every P c → Every P d → Every P (or_else c d)
-  every-else none d a b = b
-  every-else (some y) d a b = a
+  every-else None d a b = b
+  every-else (Some y) d a b = a
 
   -- 2, from place p on
   pub every-length : (p : ℕ) (ns : List ℕ) → ((q d : ℕ) → p ≤ q → P (refusal 2 q d)) → Every P (length_checks p ns)

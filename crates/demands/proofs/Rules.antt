@@ -4,11 +4,11 @@ use mathlib.Core.Path.{◌≡◌, refl, sym, ap, ◌∙◌}
 use Prim.Native.Nat.{ℕ, ◌-◌, ◌<◌}
 use mathlib.Core.Bool.{Bool, true, false, not, ◌||◌, true≢false}
 use mathlib.Core.Logic.{◌⊎◌, inl, inr, ◌↔◌}
-use mathlib.Core.Option.{Option, none, some}
+use Rattle.std.specs.Prelude.{Option, None, Some}
 use mathlib.Core.List.{List, [], ◌∷◌}
 use lib.Dec.{ltb}
 use lib.ListN.{length, get_or}
-use Rattle.terms.specs.Lists.{lowest, or_else, there}
+use Rattle.terms.specs.Lists.{lowest, there}
 use Rattle.terms.specs.Refusals.{refusal, check, first}
 use Rattle.terms.specs.declared.Collation.{Collation}
 use Rattle.terms.specs.declared.Refusal.{Refusal}
@@ -19,33 +19,33 @@ use Rattle.sorting.specs.KeyOrder.{start_of}
 use Rattle.storing.specs.Ends.{string_at, faulty_end, ends_refusal}
 use Rattle.storing.specs.Rooms.{store_check, arrays_check}
 use Rattle.storing.specs.Stored.{joined}
-use Rattle.many.specs.Many.{ManyCall, many_keys, long_text, texts_checks, rooms_refusal, many_refusal}
+use Rattle.many.specs.Many.{ManyCall, many_keys, long_text, many_refusal}
 use Rattle.matching.specs.Matching.{KeysCall, keys_checked, keys_refusal}
 use Rattle.demands.specs.Faults.{LowestAt}
-use Rattle.demands.specs.Bulk.{Rule, ruled, ruled_at, FirstRule, WrongEnd, rule_too_many, rule_end, many_rules, keys_rules}
+use Rattle.demands.specs.Bulk.{Rule, ruled, ruled_at, FirstRule, rule_too_many, rule_end, many_rules, keys_rules}
 use Rattle.demands.proofs.Reflect.{ltb-exactly, or-exactly, lowest-exactly}
 
 -- ---- one check
 
 -- a check gives exactly the refusals of its rule
 abbrev pub Gives : Option Refusal → Rule → Type 0
-Gives c r = (x : Refusal) → (c ≡ some x) ↔ r x
+Gives c r = (x : Refusal) → (c ≡ Some x) ↔ r x
 
-some_same : {x y : Refusal} → some x ≡ some y → x ≡ y
+some_same : {x y : Refusal} → Some x ≡ Some y → x ≡ y
 some_same e = cc
 
 -- by a test
 pub gives-check : (b : Bool) (n p d : ℕ) {A : Type 0} → (b ≡ true) ↔ A → Gives (check b n p d) (ruled n p d A)
-gives-check true n p d h x = (λ e. (sym (some_same e), h.0 refl), λ a. ap some (sym a.0))
+gives-check true n p d h x = (λ e. (sym (some_same e), h.0 refl), λ a. ap Some (sym a.0))
 gives-check false n p d h x = (λ e. absurd (none-some x e), λ a. absurd (true≢false (sym (h.1 a.1))))
 
 -- by the lowest number at fault
-pub gives_at : (n : ℕ) (o : Option ℕ) {holds : ℕ → Type 0} {bound : ℕ} → ((i : ℕ) → (o ≡ some i) ↔ LowestAt holds bound i)
+pub gives_at : (n : ℕ) (o : Option ℕ) {holds : ℕ → Type 0} {bound : ℕ} → ((i : ℕ) → (o ≡ Some i) ↔ LowestAt holds bound i)
     → Gives (string_at n o) (ruled_at n holds bound)
-gives_at n none h x = (λ e. absurd (none-some x e), λ a. absurd (none-some a.0 ((h a.0).1 a.2)))
-gives_at n (some i) h x = (
+gives_at n None h x = (λ e. absurd (none-some x e), λ a. absurd (none-some a.0 ((h a.0).1 a.2)))
+gives_at n (Some i) h x = (
   λ e. (i, sym (some_same e), (h i).0 refl),
-  λ a. let is : some i ≡ some a.0 = (h a.0).1 a.2 in let same : i ≡ a.0 = cc in ap some (ap (refusal n 1) same ∙ sym a.1),
+  λ a. let is : Some i ≡ Some a.0 = (h a.0).1 a.2 in let same : i ≡ a.0 = cc in ap Some (ap (refusal n 1) same ∙ sym a.1),
 )
 
 -- ---- a row
@@ -61,16 +61,16 @@ pub gives-first : (cs : List (Option Refusal)) (rs : List Rule) → GivesEach cs
 gives-first [] [] g x = (λ e. absurd (none-some x e), λ a. absurd a)
 gives-first [] (r ∷ rs) g x = absurd g
 gives-first (c ∷ cs) [] g x = absurd g
-gives-first (none ∷ cs) (r ∷ rs) g x =
+gives-first (None ∷ cs) (r ∷ rs) g x =
     let rest = gives-first cs rs g.1 x in
     (λ e. inr (λ y a. none-some y ((g.0 y).1 a), rest.0 e), later rest.1)
   where
-    later : (FirstRule rs x → first cs ≡ some x) → FirstRule (r ∷ rs) x → first cs ≡ some x
+    later : (FirstRule rs x → first cs ≡ Some x) → FirstRule (r ∷ rs) x → first cs ≡ Some x
     later rest (inl a) = absurd (none-some x ((g.0 x).1 a))
     later rest (inr a) = rest a.1
-gives-first (some y ∷ cs) (r ∷ rs) g x = (λ e. inl ((g.0 x).0 e), here)
+gives-first (Some y ∷ cs) (r ∷ rs) g x = (λ e. inl ((g.0 x).0 e), here)
   where
-    here : FirstRule (r ∷ rs) x → some y ≡ some x
+    here : FirstRule (r ∷ rs) x → Some y ≡ Some x
     here (inl a) = (g.0 x).1 a
     here (inr a) = absurd (a.0 y ((g.0 y).0 refl))
 
@@ -96,9 +96,9 @@ arrays one two n =
 room : (one n : ℕ) → Gives (store_check one n) (ruled 8 0 n (one < n))
 room one n = gives-check (ltb one n) 8 0 n (ltb-exactly one n)
 
-unnamed : (o : Option Collation) → (not (there o) ≡ true) ↔ (o ≡ none)
-unnamed none = (λ e. refl, λ e. refl)
-unnamed (some k) = (λ e. absurd (true≢false (sym e)), λ e. absurd (none-some k (sym e)))
+unnamed : (o : Option Collation) → (not (there o) ≡ true) ↔ (o ≡ None)
+unnamed None = (λ e. refl, λ e. refl)
+unnamed (Some k) = (λ e. absurd (true≢false (sym e)), λ e. absurd (none-some k (sym e)))
 
 module _ (c : ManyCall) where
   -- its checks as one row

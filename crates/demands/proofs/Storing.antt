@@ -3,7 +3,7 @@
 use mathlib.Core.Path.{◌≡◌, refl, sym, ap, subst₂, ◌∙◌}
 use Prim.Native.Nat.{ℕ, ◌*◌, ◌≤◌}
 use mathlib.Core.Bool.{true, not, true≢false}
-use mathlib.Core.Option.{Option, none, some}
+use Rattle.std.specs.Prelude.{Option, None, Some}
 use mathlib.Core.List.{List, [], ◌∷◌, map}
 use lib.Dec.{eqb}
 use lib.ListN.{length, length-map}
@@ -30,35 +30,35 @@ same text = eq-eqb (length text) (length text) refl
 
 agree-unicode : (n : ℕ) (t : Table) (text : List ℕ) (o : Option (List Character))
     → room_for (unicode_prepared (mapping_of t) text o) ≤ 128 * length text
-    → agrees (some UnicodeCasemap) (fields_for n (truth (unicode_prepared (mapping_of t) text o).valid) text)
+    → agrees (Some UnicodeCasemap) (fields_for n (truth (unicode_prepared (mapping_of t) text o).valid) text)
     (length (unicode_prepared (mapping_of t) text o).key)
     ≡ true
-agree-unicode n t text none h = same text
-agree-unicode n t text (some chs) h = le-leb _ (128 * length text) h
+agree-unicode n t text None h = same text
+agree-unicode n t text (Some chs) h = le-leb _ (128 * length text) h
 
-agree : (n : ℕ) (k : Collation) (t : Table) (text : List ℕ) → table_under k t ≡ none
-    → agrees (some k) (fields_for n (truth (prepared k (mapping_of t) text).valid) text) (length (prepared k (mapping_of t) text).key) ≡ true
+agree : (n : ℕ) (k : Collation) (t : Table) (text : List ℕ) → table_under k t ≡ None
+    → agrees (Some k) (fields_for n (truth (prepared k (mapping_of t) text).valid) text) (length (prepared k (mapping_of t) text).key) ≡ true
 agree n Octet t text ok = same text
 agree n AsciiCasemap t text ok = eq-eqb (length (map upper text)) (length text) (length-map text upper)
 agree n UnicodeCasemap t text ok = agree-unicode n t text (characters text) (key-most t text ok)
 
 -- so it fits
-pub prepared-fits : (n : ℕ) (k : Collation) (t : Table) (text : List ℕ) → collation_of n ≡ some k → table_under k t ≡ none
+pub prepared-fits : (n : ℕ) (k : Collation) (t : Table) (text : List ℕ) → collation_of n ≡ Some k → table_under k t ≡ None
     → length text ≤ 4096
     → key_fits rules (fields_for n (truth (prepared k (mapping_of t) text).valid) text) (length (prepared k (mapping_of t) text).key) ≡ true
 prepared-fits n k t text named ok short = rw (le-leb (length text) 4096 short, named) (agree n k t text ok)
 
 -- and so does that of a text whose preparation was not refused
 pub kept-fits : (n : ℕ) (k : Collation) (t : Table) (pg : Pages) (l : Lent) (flag : ℕ) (key : List ℕ)
-    → collation_of n ≡ some k
-    → call_refusal (call (some k) t pg (l ∷ [])) ≡ none
+    → collation_of n ≡ Some k
+    → call_refusal (call (Some k) t pg (l ∷ [])) ≡ None
     → truth (prepared k (mapping_of t) l.text).valid ≡ flag
     → key ≡ (prepared k (mapping_of t) l.text).key
     → Unfit (of_key (fields_for n flag l.text) key) → ⊥
 kept-fits n k t pg l flag key named ok e f unfit =
-    let c = call (some k) t pg (l ∷ []) in
-    let texts = (or_else-neither (texts_refusal (some k) (lengths c)) _ (unrefused c ok).0).0 in
-    let long = (or_else-neither (length_check 1 (length l.text)) none (or_else-neither (collation_check (some k)) _ texts).1).0 in
+    let c = call (Some k) t pg (l ∷ []) in
+    let texts = (or_else-neither (texts_refusal (Some k) (lengths c)) _ (unrefused c ok).0).0 in
+    let long = (or_else-neither (length_check 1 (length l.text)) None (or_else-neither (collation_check (Some k)) _ texts).1).0 in
     let short : length l.text ≤ 4096 = ltb-false 4096 (length l.text) (when-none _ _ long) in
     let fit = prepared-fits n k t l.text named (unrefused-table c ok) short in
     let fields = fields_for n flag l.text in

@@ -5,7 +5,7 @@ use Prim.Native.Nat.{ℕ, zero, suc, ◌≤◌, ◌<◌}
 use native.Mathlib.Omega.{arith}
 use mathlib.Core.Bool.{Bool, true, false, not, ◌&&◌}
 use mathlib.Core.Logic.{inl, inr, ◌↔◌}
-use mathlib.Core.Option.{Option, none, some}
+use Rattle.std.specs.Prelude.{Option, None, Some}
 use mathlib.Core.List.{List}
 use lib.Dec.{leb, ltb, eqb}
 use lib.ListN.{length, get_or}
@@ -89,7 +89,7 @@ number-exactly : (pool : List ℕ) (j : ℕ) → (faulty_number pool j ≡ true)
 number-exactly pool j = not-exactly (scalar (get_or pool j 0)) (scalar-exactly (get_or pool j 0))
 
 -- where 5 finds its fault
-entries-exactly : (t : Table) (i : ℕ) → (entry_fault t ≡ some i) ↔ WrongEntries t i
+entries-exactly : (t : Table) (i : ℕ) → (entry_fault t ≡ Some i) ↔ WrongEntries t i
 entries-exactly t i = (found (lowest (faulty_entry t) n) refl, given)
   where
     n : ℕ
@@ -98,21 +98,21 @@ entries-exactly t i = (found (lowest (faulty_entry t) n) refl, given)
     pool : (pool_left t ≡ true) ↔ (counts_below t.entries (entry_count t.entries) < length t.pool)
     pool = ltb-exactly (counts_below t.entries (entry_count t.entries)) (length t.pool)
 
-    last : (b : Bool) → pool_left t ≡ b → when b (entry_count t.entries) ≡ some i
+    last : (b : Bool) → pool_left t ≡ b → when b (entry_count t.entries) ≡ Some i
         → (i ≡ entry_count t.entries) × (pool_left t ≡ true)
     last true q e = (cc, q)
     last false q e = absurd (none-some i e)
 
     found : (o : Option ℕ) → lowest (faulty_entry t) (entry_count t.entries) ≡ o
-        → or_else o (when (pool_left t) (entry_count t.entries)) ≡ some i → WrongEntries t i
-    found (some j) q e =
+        → or_else o (when (pool_left t) (entry_count t.entries)) ≡ Some i → WrongEntries t i
+    found (Some j) q e =
         let is : j ≡ i = cc in
-        inl ((lowest-exactly (faulty_entry t) (entry-exactly t) (entry_count t.entries) i).0 (q ∙ ap some is))
-    found none q e =
+        inl ((lowest-exactly (faulty_entry t) (entry-exactly t) (entry_count t.entries) i).0 (q ∙ ap Some is))
+    found None q e =
         let at-end = last (pool_left t) refl e in
         inr (at-end.0, (nowhere-exactly (faulty_entry t) (entry-exactly t) (entry_count t.entries)).0 q, pool.0 at-end.1)
 
-    given : WrongEntries t i → entry_fault t ≡ some i
+    given : WrongEntries t i → entry_fault t ≡ Some i
     given (inl h) = rw ((lowest-exactly (faulty_entry t) (entry-exactly t) (entry_count t.entries) i).1 h)
     given (inr h) =
         rw ((nowhere-exactly (faulty_entry t) (entry-exactly t) (entry_count t.entries)).1 h.1, pool.1 h.2, h.0)

@@ -2,14 +2,14 @@
 -- the first that applies.
 -- Assumes nothing.
 use Rattle.std.specs.Prelude.{◌≡◌, ℕ, ◌-◌, ◌<◌, ◌⊎◌, List, [], ◌∷◌, length, get_or}
-use Rattle.std.proofs.Math.Option.{none, some}
+use Rattle.std.specs.Prelude.{None, Some}
 use Rattle.terms.specs.Refusals.{refusal}
 use Rattle.terms.specs.declared.Refusal.{Refusal}
 use Rattle.prepare.specs.Calls.{table_check, pages_check}
 use Rattle.sorting.specs.KeyOrder.{start_of}
 use Rattle.storing.specs.Stored.{joined}
 use Rattle.many.specs.Many.{ManyCall, many_keys, many_refusal, PreparesMany}
-use Rattle.many.specs.declared.Batch.{Batch}
+use Rattle.many.specs.Many.{Batch}
 use Rattle.matching.specs.Matching.{KeysCall}
 use Rattle.demands.specs.Faults.{LowestAt}
 
@@ -54,12 +54,12 @@ ManyCalled c r after = PreparesMany (many_refusal c) c r after
 -- 1, 14, 36, 2, 3 to 7, 15, 8 for the store, 8 for the other two slices
 abbrev pub many_rules : ManyCall → List Rule
 many_rules c =
-    ruled 1 0 0 (c.collation ≡ none)
+    ruled 1 0 0 (c.collation ≡ None)
     ∷ rule_too_many c.ends
     ∷ rule_end (length c.octets) c.ends
     ∷ ruled_at 2 (λ i. 4096 < get_or c.ends i 0 - start_of c.ends i) (length c.ends)
-    ∷ (λ x. table_check c.collation c.table ≡ some x)
-    ∷ (λ x. pages_check c.collation c.pages ≡ some x)
+    ∷ (λ x. table_check c.collation c.table ≡ Some x)
+    ∷ (λ x. pages_check c.collation c.pages ≡ Some x)
     ∷ ruled 8 0 (length (joined (many_keys c))) (length c.store < length (joined (many_keys c)))
     ∷ ruled 8 0 (length c.ends) ((length c.key_ends < length c.ends) ⊎ (length c.valid < length c.ends))
     ∷ []

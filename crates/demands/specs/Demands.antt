@@ -2,8 +2,12 @@
 -- row and the first that applies, the order of keys, a hit, a table that calls of the builder have grown, a prepared text,
 -- bounds. What each refusal number means stands in Faults.antt, the table that attains the bounds in Widest.antt.
 -- Assumes nothing.
+use Rattle.terms.specs.declared.KeyPosition.{KeyPosition}
+use Rattle.terms.specs.declared.TextPosition.{TextPosition}
+use Rattle.search.specs.Substring.{Sought}
+use Rattle.std.specs.Prelude.{Ok, Err}
 use Rattle.std.specs.Prelude.{◌≡◌, ℕ, suc, ◌+◌, ◌*◌, ◌≤◌, ◌<◌, ◌⊎◌, true, cond, List, [], ◌∷◌, ◌++◌, length, take, drop, replicate}
-use Rattle.std.proofs.Math.Option.{Option, none, some}
+use Rattle.std.specs.Prelude.{Option, None, Some}
 use Rattle.terms.specs.Lists.{each, over}
 use Rattle.terms.specs.Refusals.{refusal}
 use Rattle.terms.specs.declared.Collation.{Collation}
@@ -25,7 +29,6 @@ use Rattle.ucd.specs.Lines.{Properties, LineSays}
 use Rattle.builder.specs.Builder.{Built, built, Added}
 use Rattle.builder.specs.Built.{properties_mapping}
 use Rattle.builder.specs.declared.LineState.{LineState}
-use Rattle.builder.specs.declared.Line.TheVariants.{Taken, Refused}
 
 -- ---- refusals
 
@@ -33,7 +36,7 @@ use Rattle.builder.specs.declared.Line.TheVariants.{Taken, Refused}
 pub record FirstApplies (checks : List (Option Refusal)) (x : Refusal) : Type 0 where
   pub passed : ℕ
   pub rest : List (Option Refusal)
-  pub row : checks ≡ replicate passed none ++ some x ∷ rest
+  pub row : checks ≡ replicate passed None ++ Some x ∷ rest
 
 -- the checks of a table: 3, 4, 5, 6, 7
 abbrev pub table_checks : Table → List (Option Refusal)
@@ -97,11 +100,11 @@ pub record Hit (k : Collation) (m : Mapping) (s t : List ℕ) (a b c d : ℕ) : 
 pub data Grows : Built → List (List ℕ) → List (List ℕ) → Built → Type 0 where
   no_call : {b : Built} → Grows b [] [] b
   taken : {b c : Built} {line : List ℕ} {lines accepted : List (List ℕ)} {st : LineState} {es pool : List ℕ}
-      → Added b line (Taken st) es pool
+      → Added b line (Ok st) es pool
       → Grows (built st es pool) lines accepted c
       → Grows b (line ∷ lines) (line ∷ accepted) c
   not_taken : {b c : Built} {line : List ℕ} {lines accepted : List (List ℕ)} {x : Refusal} {st : LineState} {es pool : List ℕ}
-      → Added b line (Refused x st) es pool
+      → Added b line (Err (record { refusal = x; state = st })) es pool
       → Grows (built st es pool) lines accepted c
       → Grows b (line ∷ lines) accepted c
 
@@ -158,8 +161,8 @@ pub record Bounds (m : Mapping) (chs : List Character) : Type 0 where
 -- a table is accepted, and on a valid text of these characters, one of them, the published steps make just so many lookups
 -- and give a key of just so many octets
 pub record Attained (t : Table) (text : List ℕ) (chs : List Character) (asked octets : ℕ) : Type 0 where
-  pub accepted : table_refusal t ≡ none
-  pub valid : characters text ≡ some chs
+  pub accepted : table_refusal t ≡ None
+  pub valid : characters text ≡ Some chs
   pub one : length chs ≡ 1
   pub key : List ℕ
   pub steps : StepsGive (mapping_of t) chs key asked
@@ -170,3 +173,9 @@ pub record Attained (t : Table) (text : List ℕ) (chs : List Character) (asked 
 -- a name with each syllable written in its jamo
 abbrev pub in_jamo : List ℕ → List ℕ
 in_jamo cs = each (λ c. cond (syllable c) (syllable_parts c) (c ∷ [])) cs
+
+-- ---- hits
+
+-- a substring was found: where it stands in the key, and the run of the text that covers it
+abbrev pub hit_at : KeyPosition → KeyPosition → TextPosition → TextPosition → Sought
+hit_at a b c d = Ok (Some (record { key_start = a; key_end = b; text_start = c; text_end = d }))

@@ -3,7 +3,7 @@
 -- beside it.
 -- Assumes nothing.
 use Rattle.std.specs.Prelude.{◌≡◌, ℕ, suc, ◌+◌, ◌%◌, ◌≤◌, ◌<◌, ◌⊎◌, List, [], ◌∷◌, ◌++◌, length, get_or}
-use Rattle.std.proofs.Math.Option.{none}
+use Rattle.std.specs.Prelude.{None}
 use Rattle.terms.specs.Lists.{In}
 use Rattle.table.specs.Layout.{entry_count, code_at, title_at, start_at, count_at}
 use Rattle.table.specs.Table.{Table, counts_below}
@@ -147,7 +147,7 @@ WrongSemicolons line = semicolons line ≡ 14 → ⊥
 
 -- 29 of field 12, 24 of field 14: a field that may be empty is not, and writes no code point
 abbrev pub MalformedField : ℕ → List ℕ → Type 0
-MalformedField i line = (field i line ≡ [] → ⊥) × (code_point (field i line) ≡ none)
+MalformedField i line = (field i line ≡ [] → ⊥) × (code_point (field i line) ≡ None)
 
 -- "a line with a mapping": not one of those "that say nothing (no parts, titlecase none or itself)"
 abbrev pub HasMapping : Properties → Type 0
@@ -202,10 +202,10 @@ fault21 line = plain 21 (WrongSemicolons line)
 
 -- "22, 23, 24 field 0, 5, 14 malformed"
 abbrev pub fault22 : List ℕ → Fault
-fault22 line = plain 22 (code_point (field 0 line) ≡ none)
+fault22 line = plain 22 (code_point (field 0 line) ≡ None)
 
 abbrev pub fault23 : List ℕ → Fault
-fault23 line = plain 23 (decomposition (field 5 line) ≡ none)
+fault23 line = plain 23 (decomposition (field 5 line) ≡ None)
 
 -- "29, field 12 malformed, checked even when 14 is filled"
 abbrev pub fault29 : List ℕ → Fault

@@ -2,7 +2,7 @@
 -- call on two lists, each where those before it don't apply.
 -- Assumes nothing.
 use Rattle.std.specs.Prelude.{◌≡◌, ℕ, ◌≤◌, ◌<◌, ◌⊎◌, List, [], ◌∷◌, length}
-use Rattle.std.proofs.Math.Option.{none, some}
+use Rattle.std.specs.Prelude.{None, Some}
 use Rattle.terms.specs.Refusals.{refusal}
 use Rattle.terms.specs.declared.Collation.{Collation}
 use Rattle.terms.specs.declared.Collation.TheVariants.{UnicodeCasemap}
@@ -12,7 +12,7 @@ use Rattle.records.specs.Reading.{stopped, item, kind_in, body_in, read_at}
 use Rattle.decompose.specs.TableCheck.{table_refusal}
 use Rattle.prepare.specs.Calls.{lookup_check}
 use Rattle.lists.specs.Lists.{ListsCall, all_keys, lists_refusal, Shares}
-use Rattle.lists.specs.declared.Shared.{Shared}
+use Rattle.lists.specs.Lists.{Shared}
 use Rattle.demands.specs.Demands.{ShortPages}
 use Rattle.demands.specs.Faults.{Fault, plain}
 use Rattle.demands.specs.Records.{following_at, fault11}
@@ -54,7 +54,7 @@ list_faults list p =
 -- left. Under collations 1 and 2 `lookup_check` is none, whatever the table and the pages
 pub record Listed (c : ListsCall) (ts us : List (List ℕ)) : Type 0 where
   pub collation : Collation
-  pub known : c.collation ≡ some collation
+  pub known : c.collation ≡ Some collation
   pub first : Names c.first_list 0 ts
   pub second : Names c.second_list 0 us
   pub first_most : length ts ≤ 1024
@@ -64,24 +64,24 @@ pub record Listed (c : ListsCall) (ts us : List (List ℕ)) : Type 0 where
 -- to 14), the table's 3 to 7, 8 for the store (detail all keys together), then 8 for either array (detail the first
 -- list's names)"; with request 6 15 "after 7 and before 8"
 pub data ListsRefused (c : ListsCall) : Refusal → Type 0 where
-  number-1 : c.collation ≡ none → ListsRefused c (refusal 1 0 0)
+  number-1 : c.collation ≡ None → ListsRefused c (refusal 1 0 0)
   first-11-to-13 : (k : Collation) (x : Refusal)
-      → c.collation ≡ some k
+      → c.collation ≡ Some k
       → Faulty c.first_list 0 x
       → ListsRefused c (refusal x.number 1 x.detail)
   second-11-to-13 : (k : Collation) (ts : List (List ℕ)) (x : Refusal)
-      → c.collation ≡ some k
+      → c.collation ≡ Some k
       → Names c.first_list 0 ts
       → Faulty c.second_list 0 x
       → ListsRefused c (refusal x.number 2 x.detail)
   first-14 : (k : Collation) (ts us : List (List ℕ))
-      → c.collation ≡ some k
+      → c.collation ≡ Some k
       → Names c.first_list 0 ts
       → Names c.second_list 0 us
       → 1024 < length ts
       → ListsRefused c (refusal 14 1 0)
   second-14 : (k : Collation) (ts us : List (List ℕ))
-      → c.collation ≡ some k
+      → c.collation ≡ Some k
       → Names c.first_list 0 ts
       → Names c.second_list 0 us
       → length ts ≤ 1024
@@ -89,23 +89,23 @@ pub data ListsRefused (c : ListsCall) : Refusal → Type 0 where
       → ListsRefused c (refusal 14 2 0)
   number-3-to-7 : (ts us : List (List ℕ)) (x : Refusal)
       → Listed c ts us
-      → c.collation ≡ some UnicodeCasemap
-      → table_refusal c.table ≡ some x
+      → c.collation ≡ Some UnicodeCasemap
+      → table_refusal c.table ≡ Some x
       → ListsRefused c x
   number-15 : (ts us : List (List ℕ))
       → Listed c ts us
-      → c.collation ≡ some UnicodeCasemap
-      → table_refusal c.table ≡ none
+      → c.collation ≡ Some UnicodeCasemap
+      → table_refusal c.table ≡ None
       → ShortPages c.pages
       → ListsRefused c (refusal 15 0 0)
   store-8 : (ts us : List (List ℕ))
       → Listed c ts us
-      → lookup_check c.collation c.table c.pages ≡ none
+      → lookup_check c.collation c.table c.pages ≡ None
       → length c.store < length (all_keys c)
       → ListsRefused c (refusal 8 0 (length (all_keys c)))
   array-8 : (ts us : List (List ℕ))
       → Listed c ts us
-      → lookup_check c.collation c.table c.pages ≡ none
+      → lookup_check c.collation c.table c.pages ≡ None
       → length (all_keys c) ≤ length c.store
       → (length c.partners < length ts) ⊎ (length c.positions < length ts)
       → ListsRefused c (refusal 8 0 (length ts))

@@ -1,6 +1,8 @@
 -- Records in words (document 02, request 2): what a call of the reader gives, calls one after another, and the refusals 11,
 -- 12, 13 and 8 as types that a reader can hold beside the paper.
 -- Assumes nothing.
+use Rattle.std.specs.Prelude.{Result, Ok, Err}
+use Rattle.terms.specs.declared.Refusal.{Refusal}
 use Rattle.std.specs.Prelude.{◌≡◌, ℕ, ◌-◌, ◌*◌, ◌≤◌, ◌<◌, ◌⊎◌, List, [], ◌∷◌, length, drop}
 use Rattle.std.proofs.Math.Seq.{slice}
 use Rattle.terms.specs.declared.RecordPosition.{RecordPosition}
@@ -9,29 +11,28 @@ use Rattle.records.specs.Reading.{said_length, following, kind_in, body_in, fiel
 use Rattle.records.specs.Writing.{Writes}
 use Rattle.records.specs.declared.KeyFields.{KeyFields}
 use Rattle.records.specs.declared.Record.{Record}
-use Rattle.records.specs.declared.Record.TheVariants.{End, Text, Key, Refused}
-use Rattle.records.specs.declared.Written.TheVariants.{Upto}
+use Rattle.records.specs.declared.Record.TheVariants.{End, Text, Key}
 use Rattle.demands.specs.Demands.{CollationNumber}
 use Rattle.demands.specs.Faults.{Fault, fault, plain}
 
 -- ---- calls
 
 -- a call of `read_record` on the slice s at position p answered x: its contract
-abbrev pub ReadCall : List ℕ → ℕ → Record → Type 0
+abbrev pub ReadCall : List ℕ → ℕ → Result Record Refusal → Type 0
 ReadCall s p x = record_outcome x ≡ reading_outcome (read_at rules s p)
 
 -- the answer x gives an item of the slice s, whose octets stand where it says, and the next position
-abbrev pub GivesItem : List ℕ → Record → Item → ℕ → Type 0
-GivesItem s End i next = ⊥
-GivesItem s (Text start stop) i next = (i ≡ of_text (slice start.0 stop.0 s)) × (next ≡ stop.0)
-GivesItem s (Key f start stop) i next = (i ≡ of_key f (slice start.0 stop.0 s)) × (next ≡ stop.0)
-GivesItem s (Refused x) i next = ⊥
+abbrev pub GivesItem : List ℕ → Result Record Refusal → Item → ℕ → Type 0
+GivesItem s (Ok End) i next = ⊥
+GivesItem s (Ok (Text start stop)) i next = (i ≡ of_text (slice start.0 stop.0 s)) × (next ≡ stop.0)
+GivesItem s (Ok (Key f start stop)) i next = (i ≡ of_key f (slice start.0 stop.0 s)) × (next ≡ stop.0)
+GivesItem s (Err x) i next = ⊥
 
 -- calls of the reader on s, the first at position p and each other at the next position of the one before, gave these items, and
 -- next comes position q
 pub data ReadsEach (s : List ℕ) : ℕ → List Item → ℕ → Type 0 where
   read_none : {p : ℕ} → ReadsEach s p [] p
-  read_one : {p next q : ℕ} {i : Item} {items : List Item} (x : Record)
+  read_one : {p next q : ℕ} {i : Item} {items : List Item} (x : Result Record Refusal)
       → ReadCall s p x
       → GivesItem s x i next
       → ReadsEach s next items q
@@ -42,7 +43,7 @@ pub data ReadsEach (s : List ℕ) : ℕ → List Item → ℕ → Type 0 where
 pub data WritesEach : List ℕ → ℕ → List Item → List ℕ → ℕ → Type 0 where
   wrote_none : {s : List ℕ} {p : ℕ} → WritesEach s p [] s p
   wrote_one : {s t u : List ℕ} {p q : ℕ} {next : RecordPosition} {i : Item} {items : List Item}
-      → Writes i p s (Upto next) t
+      → Writes i p s (Ok next) t
       → WritesEach t next.0 items u q
       → WritesEach s p (i ∷ items) u q
 

@@ -32,16 +32,15 @@ pub const N_COUNT: u32 = V_COUNT * T_COUNT;
 pub const S_COUNT: u32 = L_COUNT * N_COUNT;
 
 // Whether a code point is a syllable.
+#[tactic(auto, unfolding(crate::specs::Hangul::syllable))]
 pub fn is_syllable(c: CodePoint) -> bool
     ensures { result ≡ syllable c.0 }
 {
-    if c.0 < S_BASE {
-        return false;
-    }
-    c.0 - S_BASE < S_COUNT
+    (S_BASE..S_BASE + S_COUNT).contains(&c.0)
 }
 
 // The jamo of a syllable, the third being T_BASE where it has no trailing consonant.
+#[tactic(auto, unfolding(crate::specs::Hangul::syllable, crate::specs::Promises::jamo_of))]
 pub fn jamo_of(c: CodePoint) -> [u32; 3]
     requires { syllable c.0 ≡ true }
     ensures { result ≡ jamo_of c.0 }
@@ -54,13 +53,11 @@ pub fn jamo_of(c: CodePoint) -> [u32; 3]
 }
 
 // The decomposition of a syllable, as a part of its three jamo.
+#[tactic(auto, unfolding(crate::specs::Hangul::syllable_parts, crate::specs::Promises::jamo_of))]
 pub fn parts_among<'a>(c: CodePoint, jamo: &'a [u32]) -> &'a [u32]
     requires c_value { syllable c.0 ≡ true }
     requires jamo_value { jamo.now ≡ jamo_of c.0 }
     ensures { result.now ≡ syllable_parts c.0 }
 {
-    if jamo[2] == T_BASE {
-        return &jamo[..2];
-    }
-    &jamo[..3]
+    if jamo[2] == T_BASE { &jamo[..2] } else { jamo }
 }

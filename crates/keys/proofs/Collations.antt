@@ -3,7 +3,7 @@
 -- Assumes nothing.
 use mathlib.Core.Path.{◌≡◌, refl, ap}
 use mathlib.Core.Bool.{Bool, true, false, cond, true≢false}
-use mathlib.Core.Option.{Option, none, some}
+use Rattle.std.specs.Prelude.{Option, None, Some}
 use mathlib.Core.List.{List, [], ◌∷◌}
 use Prim.Native.Nat.{ℕ}
 use lib.ListN.{length}
@@ -25,14 +25,14 @@ use Rattle.keys.proofs.Injective.{truth-inj}
 pub filled-kept : (m : Mapping) (t buffer : List ℕ) (o : Option (List Character)) (s : Summary) → there o ≡ false
     → summary_numbers s ≡ 0 ∷ 0 ∷ length t ∷ 0 ∷ []
     → KeyFilled (unicode_prepared m t o) buffer s buffer
-filled-kept m t buffer none s e h = record { numbers = h; left = refl }
-filled-kept m t buffer (some chs) s e h = absurd (true≢false e)
+filled-kept m t buffer None s e h = record { numbers = h; left = refl }
+filled-kept m t buffer (Some chs) s e h = absurd (true≢false e)
 
 -- a table that may be gone on with was accepted
-pub usable-accepted : (k : Collation) (t : Table) (p : Pages) → UsableUnder k t p → table_under k t ≡ none
+pub usable-accepted : (k : Collation) (t : Table) (p : Pages) → UsableUnder k t p → table_under k t ≡ None
 usable-accepted k t p u = go (reads_table k) u
   where
-    go : (b : Bool) → (b ≡ true → Usable t p) → cond b (table_refusal t) none ≡ none
+    go : (b : Bool) → (b ≡ true → Usable t p) → cond b (table_refusal t) None ≡ None
     go true v = (v refl).accepted
     go false v = refl
 
@@ -44,7 +44,7 @@ module _ (k : Collation) (e : k ≡ UnicodeCasemap) where
   usable-unicode u = u (ap reads_table e)
 
   -- and the table was accepted
-  pub table_under-unicode : (t : Table) → table_under k t ≡ none → table_refusal t ≡ none
+  pub table_under-unicode : (t : Table) → table_under k t ≡ None → table_refusal t ≡ None
   table_under-unicode t h = rw e at h
 
   pub prepared-unicode : (m : Mapping) (t : List ℕ) → prepared k m t ≡ unicode_prepared m t (characters t)
@@ -56,5 +56,5 @@ module _ (k : Collation) (e : k ≡ UnicodeCasemap) where
   summary-valid m t s h = go (characters t) (rw e at h)
     where
       go : (o : Option (List Character)) → summary_numbers s ≡ prepared_numbers (unicode_prepared m t o) → s.valid ≡ there o
-      go none h = truth-inj s.valid false (cc)
-      go (some chs) h = truth-inj s.valid true (cc)
+      go None h = truth-inj s.valid false (cc)
+      go (Some chs) h = truth-inj s.valid true (cc)

@@ -5,7 +5,7 @@ use Prim.Native.Nat.{ℕ, ◌≤◌}
 use native.Mathlib.Nat.{le_refl}
 use native.Mathlib.Omega.{arith}
 use mathlib.Core.Bool.{Bool, true, false, cond}
-use mathlib.Core.Option.{Option, none, some}
+use Rattle.std.specs.Prelude.{Option, None, Some}
 use mathlib.Core.List.{List, ◌++◌}
 use lib.ListN.{length, length-append, drop}
 use lib.Seq.{take_all, take_at}
@@ -43,8 +43,8 @@ key-text AsciiCasemap m t e = cc
 key-text UnicodeCasemap m t e = unicode (characters t) e
   where
     unicode : (o : Option (List Character)) → (unicode_prepared m t o).buffered ≡ false → (unicode_prepared m t o).key ≡ t
-    unicode none e = refl
-    unicode (some chs) e = cc
+    unicode None e = refl
+    unicode (Some chs) e = cc
 
 -- a place and a length that are a prepared text's show its key
 shown_at-place : (place : KeyPlace) (p : PreparedText) (t buffer : List ℕ) → (p.buffered ≡ false → p.key ≡ t)

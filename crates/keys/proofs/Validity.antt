@@ -3,7 +3,7 @@
 -- Assumes nothing.
 use mathlib.Core.Path.{◌≡◌, refl, sym, ◌∙◌, ap}
 use mathlib.Core.Bool.{Bool, true, false, true≢false}
-use mathlib.Core.Option.{Option, none, some}
+use Rattle.std.specs.Prelude.{Option, None, Some}
 use mathlib.Core.List.{List, [], ◌∷◌, ◌++◌}
 use Prim.Native.Nat.{ℕ}
 use Rattle.terms.specs.CodePoints.{scalar}
@@ -47,7 +47,7 @@ expansions-scalar m ok (c ∷ cs) e =
     (expansions-scalar m ok cs (all_rest scalar c cs e))
 
 -- so the key of a valid text is UTF-8
-valid-key : (m : Mapping) → Scalars m → (t : List ℕ) (chs : List Character) → characters t ≡ some chs
+valid-key : (m : Mapping) → Scalars m → (t : List ℕ) (chs : List Character) → characters t ≡ Some chs
     → there (characters (steps_key m chs)) ≡ true
 valid-key m ok t chs e =
     let codes : List ℕ = expansions m (codes_of chs) in
@@ -55,11 +55,11 @@ valid-key m ok t chs e =
     ∙ ap there (characters-encodes codes (expansions-scalar m ok (codes_of chs) (characters-scalars utf8-decodes t chs e)))
 
 -- the key of a valid text, and of one that is not
-pub key-valid : (m : Mapping) (t : List ℕ) (chs : List Character) → characters t ≡ some chs
+pub key-valid : (m : Mapping) (t : List ℕ) (chs : List Character) → characters t ≡ Some chs
     → key_of UnicodeCasemap m t ≡ steps_key m chs
 key-valid m t chs e = ap (λ (o : Option (List Character)). (unicode_prepared m t o).key) e
 
-pub key-invalid : (m : Mapping) (t : List ℕ) → characters t ≡ none → key_of UnicodeCasemap m t ≡ t
+pub key-invalid : (m : Mapping) (t : List ℕ) → characters t ≡ None → key_of UnicodeCasemap m t ≡ t
 key-invalid m t e = ap (λ (o : Option (List Character)). (unicode_prepared m t o).key) e
 
 -- a truth is not its opposite
@@ -73,15 +73,15 @@ differ : (m : Mapping) → Scalars m → (s t : List ℕ) (o p : Option (List Ch
     → there (characters t) ≡ false
     → key_of UnicodeCasemap m s ≡ key_of UnicodeCasemap m t
     → ⊥
-differ m ok s t none p e f v i k = no_both (there (characters s)) v (ap there e)
-differ m ok s t (some chs) (some others) e f v i k = no_both (there (characters t)) (ap there f) i
-differ m ok s t (some chs) none e f v i k =
+differ m ok s t None p e f v i k = no_both (there (characters s)) v (ap there e)
+differ m ok s t (Some chs) (Some others) e f v i k = no_both (there (characters t)) (ap there f) i
+differ m ok s t (Some chs) None e f v i k =
     let same : steps_key m chs ≡ t = sym (key-valid m s chs e) ∙ k ∙ key-invalid m t f in
     no_both (there (characters t)) (ap (λ (l : List ℕ). there (characters l)) (sym same) ∙ valid-key m ok s chs e) i
 
 -- over an accepted table a valid and an invalid text never have equal keys under collation 3
 pub valid-invalid-differ : (t : Table)
-    → table_refusal t ≡ none
+    → table_refusal t ≡ None
     → (x y : List ℕ)
     → there (characters x) ≡ true
     → there (characters y) ≡ false

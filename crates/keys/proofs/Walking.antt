@@ -3,8 +3,8 @@
 use mathlib.Core.Path.{◌≡◌, sym, ap, ◌∙◌}
 use mathlib.Core.Bool.{true}
 use mathlib.Core.List.{List, [], ◌∷◌, ◌++◌}
-use mathlib.Core.Logic.{◌⊎◌, inl, inr}
-use mathlib.Core.Option.{some}
+use mathlib.Core.Logic.{inl, inr}
+use Rattle.std.specs.Prelude.{Some}
 use Prim.Native.Nat.{ℕ, ◌+◌, ◌≤◌, ◌<◌}
 use native.Mathlib.Omega.{arith}
 use lib.ListN.{length, take, drop, set}
@@ -34,12 +34,12 @@ module _ {m : Mapping} {t buffer : List ℕ} {at end k : ℕ} {after : List ℕ}
   module _ (ok : (c : ℕ) → unfolds m c ≡ true) where
     -- before a place up to which there is room, there is room for the next character
     pub walking-room : {stop : ℕ} → there (characters t) ≡ true → RoomTo m t stop (length buffer) → at < stop
-        → (ch : Character) → decode (drop at t) ≡ some ch → end + length (expanded m ch.code) ≤ length buffer
+        → (ch : Character) → decode (drop at t) ≡ Some ch → end + length (expanded m ch.code) ≤ length buffer
     walking-room valid (inl each) before ch e = omega (arith, each, before, w.sized.octets, expanded-most m ok ch.code)
     walking-room valid (inr whole) before ch e = writing-room utf8-decodes w.written valid whole ch e
 
     -- one character more, written into what follows the octets so far
-    pub walking-more : (ch : Character) (r : Unfolded) (last : List ℕ) → decode (drop at t) ≡ some ch
+    pub walking-more : (ch : Character) (r : Unfolded) (last : List ℕ) → decode (drop at t) ≡ Some ch
         → ExpansionFilled m ch.code (drop end after) r last → end + r.octets ≤ length buffer
         → Walking m t buffer (at + ch.width) (end + r.octets) (k + r.asks) (take end after ++ last)
     walking-more ch r last e filled room = record {
@@ -48,7 +48,7 @@ module _ {m : Mapping} {t buffer : List ℕ} {at end k : ℕ} {after : List ℕ}
     }
 
     -- one octet of ASCII more that becomes one octet
-    pub walking-plain : (a o : ℕ) → decode (drop at t) ≡ some (character a 1) → end < length buffer
+    pub walking-plain : (a o : ℕ) → decode (drop at t) ≡ Some (character a 1) → end < length buffer
         → expanded m a ≡ o ∷ [] → lookups m a ≡ 2
         → Walking m t buffer (at + 1) (end + 1) (k + 2) (set after end o)
     walking-plain a o e room single asked =

@@ -2,17 +2,15 @@
 -- first octets, start, one more, two walks joined, done.
 -- Assumes nothing.
 use mathlib.Core.Path.{◌≡◌, refl, sym, ap, ◌∙◌}
-use Prim.Native.Nat.{ℕ, ◌+◌, ◌*◌, ◌≤◌, ◌<◌}
+use Prim.Native.Nat.{ℕ, ◌+◌, ◌≤◌}
 use native.Mathlib.Nat.{zero-add, add-zero, add_assoc}
 use native.Mathlib.Omega.{arith}
 use mathlib.Core.Bool.{true}
-use mathlib.Core.Logic.{◌⊎◌, inl, inr}
-use mathlib.Core.Option.{Option, none, some}
+use Rattle.std.specs.Prelude.{Option, None, Some}
 use mathlib.Core.List.{List, [], ◌∷◌, ◌++◌, append_assoc, append-nil}
-use lib.ListN.{length, take, drop, set, length-append, length-drop}
+use lib.ListN.{length, take, drop, length-append, length-drop}
 use lib.Seq.{drop-drop}
 use Rattle.terms.specs.Lists.{each, total, there, over}
-use Rattle.terms.specs.Refusals.{expansion_most}
 use Rattle.terms.proofs.Parts.{length_over, over-append}
 use Rattle.table.specs.Mapping.{Mapping}
 use Rattle.utf8.specs.Characters.{Character, Decoder, Decodes, prepend, characters_by}
@@ -31,15 +29,15 @@ use Rattle.keys.specs.Walks.{values_from, key_for, Sizing, Writing}
 -- before the first character, one more before those that follow, and after the last
 values_from-start : (m : Mapping) (t : List ℕ) (o : Option (List Character))
     → prepared_numbers (unicode_prepared m t o) ≡ values_from m t 0 0 o
-values_from-start m t none = refl
-values_from-start m t (some chs) = rw (zero-add (steps_lookups m chs), zero-add (length (steps_key m chs)))
+values_from-start m t None = refl
+values_from-start m t (Some chs) = rw (zero-add (steps_lookups m chs), zero-add (length (steps_key m chs)))
 
 values_from-more : (m : Mapping) (t : List ℕ) (o k : ℕ) (ch : Character) (r : Unfolded) (f : Option (List Character))
     → ExpansionCounted m ch.code r
     → values_from m t o k (prepend ch f) ≡ values_from m t (o + r.octets) (k + r.asks) f
 unfolding steps_key steps_lookups each total
-values_from-more m t o k ch r none e = refl
-values_from-more m t o k ch r (some chs) e =
+values_from-more m t o k ch r None e = refl
+values_from-more m t o k ch r (Some chs) e =
     let asked : k + steps_lookups m (ch ∷ chs) ≡ k + r.asks + steps_lookups m chs = omega (arith, e.asked) in
     let octets : o + length (steps_key m (ch ∷ chs)) ≡ o + r.octets + length (steps_key m chs) =
     omega (arith, e.octets, length-append (expanded m ch.code) (steps_key m chs)) in
@@ -49,14 +47,14 @@ values_from-more m t o k ch r (some chs) e =
 values_join : (m : Mapping) (t rest : List ℕ) (o k p l : ℕ) (f g : Option (List Character)) → there f ≡ true
     → prepared_numbers (unicode_prepared m rest f) ≡ values_from m rest p l g
     → values_from m t o k f ≡ values_from m t (o + p) (k + l) g
-values_join m t rest o k p l none g e v = cc
-values_join m t rest o k p l (some chs) none e v = cc
-values_join m t rest o k p l (some chs) (some later) e v =
+values_join m t rest o k p l None g e v = cc
+values_join m t rest o k p l (Some chs) None e v = cc
+values_join m t rest o k p l (Some chs) (Some later) e v =
     let asked : steps_lookups m chs ≡ l + steps_lookups m later = cc in
     let octets : length (steps_key m chs) ≡ p + length (steps_key m later) = cc in
     rw (asked, octets, add_assoc k l (steps_lookups m later), add_assoc o p (length (steps_key m later)))
 
-values_from-done : (m : Mapping) (t : List ℕ) (o k : ℕ) → values_from m t o k (some []) ≡ 1 ∷ k ∷ o ∷ 1 ∷ []
+values_from-done : (m : Mapping) (t : List ℕ) (o k : ℕ) → values_from m t o k (Some []) ≡ 1 ∷ k ∷ o ∷ 1 ∷ []
 unfolding steps_key steps_lookups each total
 values_from-done m t o k = rw (add-zero k, add-zero o)
 
@@ -71,7 +69,7 @@ sizing-start decode m t = record {
 
 module _ {decode : Decoder} (d : Decodes decode) {m : Mapping} {t : List ℕ} {at o k : ℕ} (w : Sizing decode m t at o k) where
   -- one character more
-  pub sizing-more : ((c : ℕ) → unfolds m c ≡ true) → (ch : Character) (r : Unfolded) → decode (drop at t) ≡ some ch
+  pub sizing-more : ((c : ℕ) → unfolds m c ≡ true) → (ch : Character) (r : Unfolded) → decode (drop at t) ≡ Some ch
       → ExpansionCounted m ch.code r
       → Sizing decode m t (at + ch.width) (o + r.octets) (k + r.asks)
   sizing-more ok ch r e counted =
@@ -109,8 +107,8 @@ module _ {decode : Decoder} (d : Decodes decode) {m : Mapping} {t : List ℕ} {a
 key-prepend : (m : Mapping) (t rest : List ℕ) (ch : Character) (o : Option (List Character)) → there (prepend ch o) ≡ true
     → (unicode_prepared m t (prepend ch o)).key ≡ expanded m ch.code ++ (unicode_prepared m rest o).key
 unfolding steps_key each
-key-prepend m t rest ch none e = cc
-key-prepend m t rest ch (some chs) e = refl
+key-prepend m t rest ch None e = cc
+key-prepend m t rest ch (Some chs) e = refl
 
 -- where nothing follows, nothing is left of the key
 key-end : {decode : Decoder} (d : Decodes decode) (m : Mapping) (t : List ℕ) (at : ℕ) → length t ≤ at
@@ -121,14 +119,14 @@ key-end d m t at h = ap (λ (o : Option (List Character)). (unicode_prepared m (
 -- a valid text's key belongs in the buffer
 keyed-there : (m : Mapping) (t buffer : List ℕ) (o : Option (List Character)) → there o ≡ true
     → keyed (unicode_prepared m t o) buffer ≡ over (unicode_prepared m t o).key buffer
-keyed-there m t buffer none e = cc
-keyed-there m t buffer (some chs) e = refl
+keyed-there m t buffer None e = cc
+keyed-there m t buffer (Some chs) e = refl
 
 -- and needs room
 room_for-there : (m : Mapping) (t : List ℕ) (o : Option (List Character)) → there o ≡ true
     → room_for (unicode_prepared m t o) ≡ length (unicode_prepared m t o).key
-room_for-there m t none e = cc
-room_for-there m t (some chs) e = refl
+room_for-there m t None e = cc
+room_for-there m t (Some chs) e = refl
 
 -- before the first character
 pub writing_start : (decode : Decoder) (m : Mapping) (t buffer : List ℕ) → there (characters_by decode t) ≡ true
@@ -147,7 +145,7 @@ module _ {decode : Decoder} (d : Decodes decode) {m : Mapping} {t buffer : List 
   writing-end = omega (arith, w.fits, writing-length)
 
   -- the key of what follows: the octets of its first character, and the key of the rest
-  rest_more : (ch : Character) → decode (drop at t) ≡ some ch
+  rest_more : (ch : Character) → decode (drop at t) ≡ Some ch
       → key_for decode m (drop at t) ≡ expanded m ch.code ++ key_for decode m (drop (at + ch.width) t)
   rest_more ch e =
       let split = characters-drop d t at ch e in
@@ -156,7 +154,7 @@ module _ {decode : Decoder} (d : Decodes decode) {m : Mapping} {t buffer : List 
       ∙ key-prepend m (drop at t) rest ch (characters_by decode rest) (ap there (sym split) ∙ w.valid)
 
   -- and the whole key
-  whole-more : (ch : Character) → decode (drop at t) ≡ some ch
+  whole-more : (ch : Character) → decode (drop at t) ≡ Some ch
       → key_for decode m t ≡ (w.octets ++ expanded m ch.code) ++ key_for decode m (drop (at + ch.width) t)
   whole-more ch e =
       w.whole
@@ -164,7 +162,7 @@ module _ {decode : Decoder} (d : Decodes decode) {m : Mapping} {t buffer : List 
       ∙ sym (append_assoc w.octets (expanded m ch.code) (key_for decode m (drop (at + ch.width) t)))
 
   -- one character more, whose octets follow those so far
-  pub writing-next : (ch : Character) (n : ℕ) (next : List ℕ) → decode (drop at t) ≡ some ch
+  pub writing-next : (ch : Character) (n : ℕ) (next : List ℕ) → decode (drop at t) ≡ Some ch
       → n ≡ length (expanded m ch.code) → end + n ≤ length buffer
       → next ≡ over (w.octets ++ expanded m ch.code) buffer
       → Writing decode m t buffer (at + ch.width) (end + n) next
@@ -180,7 +178,7 @@ module _ {decode : Decoder} (d : Decodes decode) {m : Mapping} {t buffer : List 
       }
 
   -- they were written into what follows the octets so far
-  pub writing_more : (ch : Character) (r : Unfolded) (last : List ℕ) → decode (drop at t) ≡ some ch
+  pub writing_more : (ch : Character) (r : Unfolded) (last : List ℕ) → decode (drop at t) ≡ Some ch
       → ExpansionFilled m ch.code (drop end after) r last → end + r.octets ≤ length buffer
       → Writing decode m t buffer (at + ch.width) (end + r.octets) (take end after ++ last)
   writing_more ch r last e filled room =
@@ -231,7 +229,7 @@ module _ {decode : Decoder} (d : Decodes decode) {m : Mapping} {t buffer : List 
           ))
 
       -- and for the octets of the next character
-      pub writing-room : (ch : Character) → decode (drop at t) ≡ some ch → end + length (expanded m ch.code) ≤ length buffer
+      pub writing-room : (ch : Character) → decode (drop at t) ≡ Some ch → end + length (expanded m ch.code) ≤ length buffer
       writing-room ch e =
           let rest = key_for decode m (drop (at + ch.width) t) in
           omega (

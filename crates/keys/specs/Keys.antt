@@ -2,7 +2,7 @@
 -- "Each text has its own key, whatever the other text is."
 -- Assumes nothing.
 use Rattle.std.specs.Prelude.{◌≡◌, ℕ, ◌-◌, Bool, true, false, cond, ◌&&◌, List, map, leb, length}
-use Rattle.std.proofs.Math.Option.{Option, none, some}
+use Rattle.std.specs.Prelude.{Option, None, Some}
 use Rattle.terms.specs.Lists.{over}
 use Rattle.terms.specs.Collations.{reads_table}
 use Rattle.terms.specs.declared.Collation.{Collation}
@@ -37,8 +37,8 @@ ascii_prepared t = record { valid = true; count = 0; key = map upper t; buffered
 
 -- collation 3: "prepared text, or the text itself if it isn't valid UTF-8"
 abbrev pub unicode_prepared : Mapping → List ℕ → Option (List Character) → PreparedText
-unicode_prepared m t none = record { valid = false; count = 0; key = t; buffered = false }
-unicode_prepared m t (some chs) = record { valid = true; count = steps_lookups m chs; key = steps_key m chs; buffered = true }
+unicode_prepared m t None = record { valid = false; count = 0; key = t; buffered = false }
+unicode_prepared m t (Some chs) = record { valid = true; count = steps_lookups m chs; key = steps_key m chs; buffered = true }
 
 -- a text prepared under a collation
 abbrev pub prepared : Collation → Mapping → List ℕ → PreparedText
@@ -52,7 +52,7 @@ key_of k m t = (prepared k m t).key
 
 -- 3 to 7 under a collation: "Collations 1 and 2 don't read the table. Every public call under 3 checks it."
 abbrev pub table_under : Collation → Table → Option Refusal
-table_under k t = cond (reads_table k) (table_refusal t) none
+table_under k t = cond (reads_table k) (table_refusal t) None
 
 -- the table and its pages may be gone on with under a collation: they are asked for where it reads the table
 abbrev pub UsableUnder : Collation → Table → Pages → Type 0

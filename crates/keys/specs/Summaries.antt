@@ -1,7 +1,7 @@
 -- A prepared text by its numbers, the key that these show, and what the contracts of the crate say with them.
 -- Assumes nothing.
 use Rattle.std.specs.Prelude.{◌≡◌, ℕ, ◌/◌, Bool, true, false, cond, ◌&&◌, List, [], ◌∷◌, leb, length, take}
-use Rattle.std.proofs.Math.Option.{Option, none, some}
+use Rattle.std.specs.Prelude.{Option, None, Some}
 use Rattle.terms.specs.Collations.{reads_table}
 use Rattle.terms.specs.Refusals.{expansion_most}
 use Rattle.terms.specs.declared.Collation.{Collation}
@@ -10,8 +10,6 @@ use Rattle.keys.specs.Keys.{PreparedText, keyed}
 use Rattle.keys.specs.declared.KeyPlace.{KeyPlace}
 use Rattle.keys.specs.declared.KeyPlace.TheVariants.{Text, Buffer}
 use Rattle.keys.specs.declared.Summary.{Summary}
-use Rattle.keys.specs.declared.Trial.{Trial}
-use Rattle.keys.specs.declared.Trial.TheVariants.{Filled, Full}
 
 -- ---- numbers
 
@@ -46,8 +44,8 @@ shown_at Buffer n text buffer = first_of n buffer
 
 -- how many characters a text has, 0 where it is not valid
 abbrev pub character_count : Option (List Character) → ℕ
-character_count none = 0
-character_count (some chs) = length chs
+character_count None = 0
+character_count (Some chs) = length chs
 
 -- ---- writing
 
@@ -57,9 +55,9 @@ pub record KeyFilled (p : PreparedText) (buffer : List ℕ) (r : Summary) (after
   pub left : after ≡ keyed p buffer
 
 -- a key was written, or given up, whatever the buffer then holds
-abbrev pub TrialFilled : PreparedText → List ℕ → Trial → List ℕ → Type 0
-TrialFilled p buffer (Filled r) after = KeyFilled p buffer r after
-TrialFilled p buffer Full after = length after ≡ length buffer
+abbrev pub TrialFilled : PreparedText → List ℕ → Option Summary → List ℕ → Type 0
+TrialFilled p buffer (Some r) after = KeyFilled p buffer r after
+TrialFilled p buffer None after = length after ≡ length buffer
 
 -- a key buffer has room for any key of a text of n octets: over a table an octet of a text comes to at most 128 of its key
 abbrev pub roomy : Collation → ℕ → ℕ → Bool

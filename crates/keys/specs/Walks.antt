@@ -2,7 +2,7 @@
 -- the room that a part of the walk needs, and what the functions that walk promise with these.
 -- Assumes nothing.
 use Rattle.std.specs.Prelude.{◌≡◌, ℕ, ◌+◌, ◌*◌, ◌≤◌, true, ◌⊎◌, List, [], ◌∷◌, ◌++◌, length, drop}
-use Rattle.std.proofs.Math.Option.{Option, none, some}
+use Rattle.std.specs.Prelude.{Option, None, Some}
 use Rattle.terms.specs.Lists.{there, over}
 use Rattle.terms.specs.Refusals.{expansion_most}
 use Rattle.table.specs.Mapping.{Mapping}
@@ -19,8 +19,8 @@ use Rattle.keys.specs.declared.writing.Progress.{Progress}
 
 -- a text's numbers, where its first characters came to o octets and k lookups and these characters follow
 abbrev pub values_from : Mapping → List ℕ → ℕ → ℕ → Option (List Character) → List ℕ
-values_from m t o k none = 0 ∷ 0 ∷ length t ∷ 0 ∷ []
-values_from m t o k (some chs) = 1 ∷ (k + steps_lookups m chs) ∷ (o + length (steps_key m chs)) ∷ 1 ∷ []
+values_from m t o k None = 0 ∷ 0 ∷ length t ∷ 0 ∷ []
+values_from m t o k (Some chs) = 1 ∷ (k + steps_lookups m chs) ∷ (o + length (steps_key m chs)) ∷ 1 ∷ []
 
 -- a text's key under collation 3
 abbrev pub key_for : Decoder → Mapping → List ℕ → List ℕ

@@ -115,10 +115,7 @@ pub fn fill_key(
 pub fn is_roomy(collation: Collation, text_length: usize, room: usize) -> bool
     ensures { result ≡ roomy collation text_length room }
 {
-    if terms::reads_table(collation) {
-        return text_length <= room / terms::EXPANSION_MOST;
-    }
-    false
+    terms::reads_table(collation) && text_length <= room / terms::EXPANSION_MOST
 }
 
 // As `fill_unicode`, and quicker on a short text: short enough to be inlined, with no row. It may be given any text.
@@ -159,15 +156,8 @@ fn buffered(written: Progress) -> Summary
     }
 }
 
-// What preparing a text into a buffer came to that need not have room.
-#[derive(Clone, Copy)]
-pub enum Trial {
-    Filled(Summary),
-    // The buffer might have been too short, and what it holds is no key.
-    Full,
-}
-
-// Prepares a text under collation 3 into any buffer, in one walk, as long as that has room for any character.
+// Prepares a text under collation 3 into any buffer, in one walk, as long as that has room for any character. No summary if the
+// buffer might have been too short: what it then holds is no key.
 pub fn try_filling(
     text: &[u8],
     entries: &[u32],
@@ -175,7 +165,7 @@ pub fn try_filling(
     presence: &[u64],
     ranks: &[u64],
     key: &mut [u8],
-) -> Trial
+) -> Option<Summary>
     requires text_len_bound { length text.now ≤ text_most }
     requires usable { Usable (table entries.now pool.now) (pages presence.now ranks.now) }
     ensures { TrialFilled (unicode_prepared (mapping_of (table entries.now pool.now))
@@ -184,11 +174,11 @@ pub fn try_filling(
     if utf8::is_valid(text) {
         let written = writing::write_while_roomy(text, entries, pool, presence, ranks, key);
         if written.at.0 < text.len() {
-            return Trial::Full;
+            return None;
         }
-        return Trial::Filled(buffered(written));
+        return Some(buffered(written));
     }
-    Trial::Filled(unicode::kept(text.len()))
+    Some(unicode::kept(text.len()))
 }
 
 // Prepares a text under collation 3 in one walk, its key not being sized first: the buffer has room for it.
@@ -223,19 +213,13 @@ pub fn fill_unicode(
 pub fn shown_part<'a>(text: &'a [u8], key: &'a [u8], summary: Summary) -> &'a [u8]
     ensures { result.now ≡ shown_at summary.place summary.key_length text.now key.now }
 {
-    let n = summary.key_length;
-    let place = summary.place;
-    match place {
-        KeyPlace::Text => {
-            if n <= text.len() {
-                return &text[..n];
-            }
-        }
-        KeyPlace::Buffer => {
-            if n <= key.len() {
-                return &key[..n];
-            }
-        }
+    let shown = match summary.place {
+        KeyPlace::Text => text,
+        KeyPlace::Buffer => key,
+    };
+    if summary.key_length <= shown.len() {
+        &shown[..summary.key_length]
+    } else {
+        &text[..0]
     }
-    &text[..0]
 }

@@ -11,7 +11,7 @@ ghost use Rattle.decompose.specs.TableCheck.{Usable};
 ghost use Rattle.keys.specs.Keys.{unicode_prepared, room_for};
 ghost use Rattle.keys.specs.Walks.{WalkedTo, PlainWalked};
 
-use crate::writing::{Progress, lesser, write_characters};
+use crate::writing::{Progress, write_characters};
 use terms::{KeyPosition, TextPosition};
 
 // The lowest octet that is none of ASCII.
@@ -40,6 +40,7 @@ pub fn write_by_row(
     let mut at = TextPosition(0);
     let mut end = KeyPosition(0);
     let mut lookups: u64 = 0;
+    // No `for`: a step is as long as the run that was written.
     while at.0 < text.len() {
         let from = at.0;
         let free = end.0;
@@ -97,17 +98,15 @@ fn write_run(
 fn write_plain(row: &[u8; 256], text: &[u8], key: &mut [u8]) -> usize
     ensures { PlainWalked row.now text.now key.old result key.new }
 {
-    let most = lesser(text.len(), key.len());
-    let mut i = 0;
-    while i < most {
+    let most = text.len().min(key.len());
+    for i in 0..most {
         let octet = row_octet(row, text[i]);
         if ASCII_END <= octet {
             return i;
         }
         key[i] = octet;
-        i += 1;
     }
-    i
+    most
 }
 
 // What the row has for an octet.
@@ -123,12 +122,10 @@ fn past_others(text: &[u8]) -> usize
     requires { 0 < length text.now }
     ensures { (1 ≤ result) × (result ≤ length text.now) }
 {
-    let mut i = 1;
-    while i < text.len() {
+    for i in 1..text.len() {
         if text[i] < ASCII_END {
             return i;
         }
-        i += 1;
     }
-    i
+    text.len()
 }

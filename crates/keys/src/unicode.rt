@@ -30,6 +30,7 @@ pub fn size_unicode(
     let mut at = TextPosition(0);
     let mut end = KeyPosition(0);
     let mut lookups: u64 = 0;
+    // No `for`: a step is as wide as the character that was read there.
     while at.0 < text.len() {
         let character = utf8::read_valid(text, at);
         let sized = decompose::size_expansion(character.code, entries, pool, presence, ranks);

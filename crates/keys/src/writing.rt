@@ -1,5 +1,5 @@
 // Writing the key of a valid text under collation 3, by the published steps, character by character.
-ghost use Rattle.std.specs.Prelude.{◌≡◌, true, ◌⊎◌, ◌≤◌, length};
+ghost use Rattle.std.specs.Prelude.{◌≡◌, true, ◌≤◌, length};
 ghost use Rattle.terms.specs.Lists.{there};
 ghost use Rattle.terms.specs.Refusals.{text_most};
 ghost use Rattle.utf8.specs.Utf8.{characters};
@@ -80,6 +80,7 @@ fn walk(
     let mut at = TextPosition(0);
     let mut end = KeyPosition(0);
     let mut lookups: u64 = 0;
+    // No `for`: a step is as wide as the character that was read there.
     while at.0 < stop.0 {
         let character = utf8::read_valid(text, at);
         let free = end.0;
@@ -116,6 +117,7 @@ pub fn write_while_roomy(
     let mut at = TextPosition(0);
     let mut end = KeyPosition(0);
     let mut lookups: u64 = 0;
+    // No `for`: a step is as long as what there was room for.
     while at.0 < text.len() {
         let from = at.0;
         let free = end.0;
@@ -124,7 +126,7 @@ pub fn write_while_roomy(
         if most == 0 {
             return Progress { at, end, lookups };
         }
-        let stop = lesser(text.len() - from, most);
+        let stop = most.min(text.len() - from);
         let written = write_characters(
             &text[from..],
             TextPosition(stop),
@@ -139,14 +141,4 @@ pub fn write_while_roomy(
         lookups += written.lookups;
     }
     Progress { at, end, lookups }
-}
-
-// The lesser of two numbers.
-pub fn lesser(a: usize, b: usize) -> usize
-    ensures { (result ≤ a) × (result ≤ b) × ((result ≡ a) ⊎ (result ≡ b)) }
-{
-    if a < b {
-        return a;
-    }
-    b
 }

@@ -1,5 +1,6 @@
 -- What an answer of `read_name` says of the list, and counting the names.
 -- Assumes nothing.
+use Rattle.std.specs.Prelude.{Result, Ok, Err}
 use mathlib.Core.Path.{◌≡◌, refl, sym, ap, ap₂, ◌∙◌}
 use Prim.Native.Nat.{ℕ, ◌+◌, ◌-◌, ◌≤◌}
 use native.Mathlib.Omega.{arith}
@@ -13,7 +14,7 @@ use Rattle.records.specs.Items.{list_rules, of_text, of_key}
 use Rattle.records.specs.Reading.{Reading, end, stopped, item, read_at, reading_outcome, record_outcome}
 use Rattle.records.specs.declared.KeyFields.{KeyFields}
 use Rattle.records.specs.declared.Record.{Record}
-use Rattle.records.specs.declared.Record.TheVariants.{End, Text, Key, Refused}
+use Rattle.records.specs.declared.Record.TheVariants.{End, Text, Key}
 use Rattle.records.proofs.Injective.{record_outcome-inj}
 use Rattle.records.proofs.Framing.{read_at-ends}
 use Rattle.records.proofs.Octets.{take_part}
@@ -22,45 +23,44 @@ use Rattle.lists.specs.Names.{names_in, names_from, fault_from, list_fault}
 use Rattle.lists.specs.Promises.{name_octets, NameRead, Counted, Lists}
 use Rattle.lists.specs.declared.names.NameCount.{NameCount}
 use Rattle.lists.specs.declared.names.NamePlace.{NamePlace}
-use Rattle.lists.specs.declared.names.Listing.TheVariants.{Names, Refused as Stopped}
 use Rattle.lists.proofs.Steps.{names-end, fault-end, names-name, fault-name, fault-stopped}
 
 -- ---- one record
 
 -- no answer is two
-end-text : {a b : RecordPosition} → Text a b ≡ End → ⊥
+end-text : {a b : RecordPosition} → ◌≡◌ {A = Result Record Refusal} (Ok (Text a b)) (Ok End) → ⊥
 end-text e = let z : ◌≡◌ {A = ℕ} 0 1 = cc in omega arith
 
-refused-text : {a b : RecordPosition} {y : Refusal} → Text a b ≡ Refused y → ⊥
+refused-text : {a b : RecordPosition} {y : Refusal} → Ok (Text a b) ≡ Err y → ⊥
 refused-text e = let z : ◌≡◌ {A = ℕ} 0 1 = cc in omega arith
 
-end_refused : {y : Refusal} → End ≡ Refused y → ⊥
+end_refused : {y : Refusal} → Ok End ≡ Err y → ⊥
 end_refused e = let z : ◌≡◌ {A = ℕ} 0 1 = cc in omega arith
 
-key-end : {f : KeyFields} {a b : RecordPosition} → Key f a b ≡ End → ⊥
+key-end : {f : KeyFields} {a b : RecordPosition} → ◌≡◌ {A = Result Record Refusal} (Ok (Key f a b)) (Ok End) → ⊥
 key-end e = let z : ◌≡◌ {A = ℕ} 0 1 = cc in omega arith
 
-key-refused : {f : KeyFields} {a b : RecordPosition} {y : Refusal} → Key f a b ≡ Refused y → ⊥
+key-refused : {f : KeyFields} {a b : RecordPosition} {y : Refusal} → Ok (Key f a b) ≡ Err y → ⊥
 key-refused e = let z : ◌≡◌ {A = ℕ} 0 1 = cc in omega arith
 
-key-text : {f : KeyFields} {a b c d : RecordPosition} → Key f a b ≡ Text c d → ⊥
+key-text : {f : KeyFields} {a b c d : RecordPosition} → ◌≡◌ {A = Result Record Refusal} (Ok (Key f a b)) (Ok (Text c d)) → ⊥
 key-text e = let z : ◌≡◌ {A = ℕ} 0 1 = cc in omega arith
 
-module _ (list : List ℕ) (p : ℕ) (x : Record) (call : record_outcome x ≡ reading_outcome (read_at list_rules list p)) where
+module _ (list : List ℕ) (p : ℕ) (x : Result Record Refusal) (call : record_outcome x ≡ reading_outcome (read_at list_rules list p)) where
   -- the answer to what is there
-  told-end : read_at list_rules list p ≡ end → x ≡ End
-  told-end e = record_outcome-inj x End (call ∙ ap reading_outcome e)
+  told-end : read_at list_rules list p ≡ end → x ≡ Ok End
+  told-end e = record_outcome-inj x (Ok End) (call ∙ ap reading_outcome e)
 
-  told-stopped : (y : Refusal) → read_at list_rules list p ≡ stopped y → x ≡ Refused y
-  told-stopped y e = record_outcome-inj x (Refused y) (call ∙ ap reading_outcome e)
+  told-stopped : (y : Refusal) → read_at list_rules list p ≡ stopped y → x ≡ Err y
+  told-stopped y e = record_outcome-inj x (Err y) (call ∙ ap reading_outcome e)
 
   told_text : (t : List ℕ) (next : ℕ) → read_at list_rules list p ≡ item (of_text t) next
-      → x ≡ Text (record { 0 = next - length t }) (record { 0 = next })
-  told_text t next e = record_outcome-inj x (Text (record { 0 = next - length t }) (record { 0 = next }))
+      → x ≡ Ok (Text (record { 0 = next - length t }) (record { 0 = next }))
+  told_text t next e = record_outcome-inj x (Ok (Text (record { 0 = next - length t }) (record { 0 = next })))
       (call ∙ ap reading_outcome e)
 
   -- a name
-  pub name-read : (a b : RecordPosition) → x ≡ Text a b → NameRead list p (record { start = a; end = b })
+  pub name-read : (a b : RecordPosition) → x ≡ Ok (Text a b) → NameRead list p (record { start = a; end = b })
   name-read a b e = go (read_at list_rules list p) refl
     where
       go : (v : Reading) → read_at list_rules list p ≡ v → NameRead list p (record { start = a; end = b })
@@ -68,7 +68,9 @@ module _ (list : List ℕ) (p : ℕ) (x : Record) (call : record_outcome x ≡ r
       go (stopped y) f = absurd (refused-text (sym e ∙ told-stopped y f))
       go (item (of_key k t) next) f = absurd (listed-key list p next k t f)
       go (item (of_text t) next) f =
-          let same : Text a b ≡ Text (record { 0 = next - length t }) (record { 0 = next }) = sym e ∙ told_text t next f in
+          let same : ◌≡◌ {A = Result Record Refusal} (Ok (Text a b)) (Ok (Text (record { 0 = next - length t }) (record { 0 = next }))) =
+          sym e ∙ told_text t next f
+          in
           let from : a.0 ≡ next - length t = cc in
           let upto : b.0 ≡ next = cc in
           let s = read_at-text list_rules list p next t f in
@@ -93,7 +95,7 @@ module _ (list : List ℕ) (p : ℕ) (x : Record) (call : record_outcome x ≡ r
               ∙ sym g
 
   -- the end
-  pub end_read : x ≡ End → p ≡ length list
+  pub end_read : x ≡ Ok End → p ≡ length list
   end_read e = go (read_at list_rules list p) refl
     where
       go : (v : Reading) → read_at list_rules list p ≡ v → p ≡ length list
@@ -103,17 +105,17 @@ module _ (list : List ℕ) (p : ℕ) (x : Record) (call : record_outcome x ≡ r
       go (item (of_text t) next) f = absurd (end-text (sym (told_text t next f) ∙ e))
 
   -- a refusal
-  pub stopped-read : (y : Refusal) → x ≡ Refused y → read_at list_rules list p ≡ stopped y
+  pub stopped-read : (y : Refusal) → x ≡ Err y → read_at list_rules list p ≡ stopped y
   stopped-read y e = go (read_at list_rules list p) refl
     where
       go : (v : Reading) → read_at list_rules list p ≡ v → read_at list_rules list p ≡ stopped y
       go end f = absurd (end_refused (sym (told-end f) ∙ e))
-      go (stopped z) f = let same : Refused y ≡ Refused z = sym e ∙ told-stopped z f in f ∙ (let w : z ≡ y = cc in ap stopped w)
+      go (stopped z) f = let same : ◌≡◌ {A = Result Record Refusal} (Err y) (Err z) = sym e ∙ told-stopped z f in f ∙ (let w : z ≡ y = cc in ap stopped w)
       go (item (of_key k t) next) f = absurd (listed-key list p next k t f)
       go (item (of_text t) next) f = absurd (refused-text (sym (told_text t next f) ∙ e))
 
   -- never a key
-  pub no_key : (f : KeyFields) (a b : RecordPosition) → x ≡ Key f a b → ⊥
+  pub no_key : (f : KeyFields) (a b : RecordPosition) → x ≡ Ok (Key f a b) → ⊥
   no_key k a b e = go (read_at list_rules list p) refl
     where
       go : (v : Reading) → read_at list_rules list p ≡ v → ⊥
@@ -121,6 +123,12 @@ module _ (list : List ℕ) (p : ℕ) (x : Record) (call : record_outcome x ≡ r
       go (stopped y) f = key-refused (sym e ∙ told-stopped y f)
       go (item (of_key g t) next) f = listed-key list p next g t f
       go (item (of_text t) next) f = key-text (sym e ∙ told_text t next f)
+
+  -- what is no text and not refused is the end
+  pub other-end : (r : Record) → x ≡ Ok r → ((a b : RecordPosition) → r ≡ Text a b → ⊥) → p ≡ length list
+  other-end End e other = end_read e
+  other-end (Text a b) e other = absurd (other a b refl)
+  other-end (Key f a b) e other = absurd (no_key f a b e)
 
 -- ---- counting
 
@@ -171,7 +179,7 @@ module _ {list : List ℕ} {p names octets : ℕ} (c : Counting list p names oct
         }
 
   -- at the end all were counted
-  pub counting-done : p ≡ length list → Lists list (Names (record { names = names; octets = octets }))
+  pub counting-done : p ≡ length list → Lists list (Ok (record { names = names; octets = octets }))
   unfolding total
   counting-done e =
       let none_left = names-end list p e in
@@ -183,11 +191,11 @@ module _ {list : List ℕ} {p names octets : ℕ} (c : Counting list p names oct
         });
       }
     where
-      counted_same : {m n : NameCount} → Names n ≡ Names m → Counted list n → Counted list m
+      counted_same : {m n : NameCount} → ◌≡◌ {A = Result NameCount Refusal} (Ok n) (Ok m) → Counted list n → Counted list m
       counted_same {m} {n} same k = let z : n ≡ m = cc in rw (← z) k
 
   -- a record that is refused
-  pub counting-stopped : (y : Refusal) → read_at list_rules list p ≡ stopped y → Lists list (Stopped y)
+  pub counting-stopped : (y : Refusal) → read_at list_rules list p ≡ stopped y → Lists list (Err y)
   counting-stopped y e = record {
     refusal = sym (fault-stopped list p c.inside y e) ∙ c.fault;
     counted = λ m same. absurd (let z : ◌≡◌ {A = ℕ} 0 1 = cc in omega arith);

@@ -3,7 +3,7 @@
 use mathlib.Core.Path.{◌≡◌, refl, sym, ap, ◌∙◌}
 use Prim.Native.Nat.{ℕ, zero, suc, ◌-◌, ◌*◌, ◌≤◌}
 use native.Mathlib.Omega.{arith}
-use mathlib.Core.Option.{Option, none, some}
+use Rattle.std.specs.Prelude.{Option, None, Some, Ok, Err}
 use mathlib.Core.List.{List, [], ◌∷◌}
 use lib.Dec.{ltb}
 use lib.ListN.{length}
@@ -20,12 +20,10 @@ use Rattle.records.specs.Items.{list_rules, of_text, of_key}
 use Rattle.records.specs.Reading.{Reading, end, stopped, item, read_at}
 use Rattle.records.proofs.Steps.{read_at-text}
 use Rattle.lists.specs.Names.{name_and, read_on, names_from, names_in, list_fault}
-use Rattle.lists.specs.Lists.{ListsCall, placed, names_checks, rooms_refusal}
+use Rattle.lists.specs.Lists.{Shared, ListsCall, placed, names_checks, rooms_refusal}
 use Rattle.lists.specs.Lists.{ready_refusal, lists_refusal, slices_after, pages_after, Shares, first_keys, second_keys}
 use Rattle.lists.specs.Promises.{name_octets, octets_most, Counted, Named, Listed, Reports}
 use Rattle.lists.specs.declared.names.NameCount.{NameCount}
-use Rattle.lists.specs.declared.Shared.{Shared}
-use Rattle.lists.specs.declared.Shared.TheVariants.{Found, Refused}
 use Rattle.partners.specs.declared.Totals.{Totals as Partnered}
 
 -- ---- names are short
@@ -53,11 +51,11 @@ octets-most {list} {n} m = omega (arith, short-read (length list - 0) list 0, m.
 
 -- ---- the checks that were passed
 
-placed-none : (place : ℕ) (o : Option Refusal) → placed place o ≡ none → o ≡ none
-placed-none place none e = refl
-placed-none place (some x) e = absurd (none-some (refusal x.number place x.detail) (sym e))
+placed-none : (place : ℕ) (o : Option Refusal) → placed place o ≡ None → o ≡ None
+placed-none place None e = refl
+placed-none place (Some x) e = absurd (none-some (refusal x.number place x.detail) (sym e))
 
-module _ (o : Option Collation) (one two : List ℕ) (passed : none ≡ first (names_checks o one two)) where
+module _ (o : Option Collation) (one two : List ℕ) (passed : None ≡ first (names_checks o one two)) where
   pub first-listed : (n : NameCount) → Counted one n → Listed one n
   first-listed n c = record {
     named = record {
@@ -96,19 +94,19 @@ module _ (o : Option Collation) (one two : List ℕ) (passed : none ≡ first (n
 
 module _ (c : ListsCall) where
   -- 1 and 11 to 14 first
-  pub refused-names : {r : Refusal} → some r ≡ first (names_checks c.collation c.first_list
-      c.second_list) → lists_refusal c ≡ some r
+  pub refused-names : {r : Refusal} → Some r ≡ first (names_checks c.collation c.first_list
+      c.second_list) → lists_refusal c ≡ Some r
   unfolding lists_refusal
   refused-names e = rw (← e) refl
 
   -- and the pages stay then
-  pub paged-names : {r : Refusal} → some r ≡ first (names_checks c.collation c.first_list c.second_list)
+  pub paged-names : {r : Refusal} → Some r ≡ first (names_checks c.collation c.first_list c.second_list)
       → c.pages ≡ pages_after c
   paged-names e = rw (← e) refl
 
-  module _ (names : none ≡ first (names_checks c.collation c.first_list c.second_list)) where
+  module _ (names : None ≡ first (names_checks c.collation c.first_list c.second_list)) where
     -- then 3 to 7 and 15
-    pub refused-lookup : {r : Refusal} → lookup_check c.collation c.table c.pages ≡ some r → lists_refusal c ≡ some r
+    pub refused-lookup : {r : Refusal} → lookup_check c.collation c.table c.pages ≡ Some r → lists_refusal c ≡ Some r
     unfolding lists_refusal
     refused-lookup e = rw (← names, e) refl
 
@@ -121,15 +119,15 @@ module _ (c : ListsCall) where
         e ∙ ap (λ (x : Option Refusal). pages_by x c.collation c.table c.pages) (sym ready)
 
     -- then 8
-    pub refused-rooms : lookup_check c.collation c.table c.pages ≡ none → lists_refusal c ≡ rooms_refusal c
+    pub refused-rooms : lookup_check c.collation c.table c.pages ≡ None → lists_refusal c ≡ rooms_refusal c
     unfolding lists_refusal
     refused-rooms e = rw (← names, e) (or_else-none (rooms_refusal c))
 
 -- ---- answers
 
 -- a refusal: the slices stay
-pub shares-refused : {x : Option Refusal} (c : ListsCall) (r : Refusal) → x ≡ some r
-    → Shares x c (Refused r) (c.store ∷ c.partners ∷ c.positions ∷ [])
+pub shares-refused : {x : Option Refusal} (c : ListsCall) (r : Refusal) → x ≡ Some r
+    → Shares x c (Err r) (c.store ∷ c.partners ∷ c.positions ∷ [])
 shares-refused c r e = rw e (record { answered = refl; left = refl })
 
 -- the same call with what is left of its refusal
@@ -156,16 +154,16 @@ pub shares-repaged : {x : Option Refusal} (c : ListsCall) (p : Pages) {r : Share
 shares-repaged {x} c p h = record { answered = h.answered; left = h.left ∙ slices x }
   where
     slices : (y : Option Refusal) → slices_after y (repaged c p) ≡ slices_after y c
-    slices none = refl
-    slices (some r) = refl
+    slices None = refl
+    slices (Some r) = refl
 
 -- a report
 pub shares-found : {x : Option Refusal} (c : ListsCall) (t : Partnered) (n m : ℕ) {store partners positions : List ℕ}
-    → x ≡ none
+    → x ≡ None
     → n ≡ length (names_in c.first_list)
     → m ≡ length (names_in c.second_list)
     → Reports (first_keys c) (second_keys c) c.store c.partners c.positions t store partners positions
-    → Shares x c (Found (record { first_names = n; second_names = m; equal_pairs = t.equal_pairs; partnered = t.partnered }))
+    → Shares x c (Ok (record { first_names = n; second_names = m; equal_pairs = t.equal_pairs; partnered = t.partnered }))
     (store ∷ partners ∷ positions ∷ [])
 shares-found c t n m e a b r =
     rw e

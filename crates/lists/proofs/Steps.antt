@@ -3,7 +3,7 @@
 use mathlib.Core.Path.{◌≡◌, refl, sym, ap, ◌∙◌}
 use Prim.Native.Nat.{ℕ, zero, suc, ◌-◌, ◌≤◌}
 use native.Mathlib.Omega.{arith}
-use mathlib.Core.Option.{Option, none, some}
+use Rattle.std.specs.Prelude.{Option, None, Some}
 use mathlib.Core.List.{List, [], ◌∷◌}
 use lib.ListN.{length}
 use Rattle.terms.specs.declared.Refusal.{Refusal}
@@ -80,7 +80,7 @@ faults-asks end one two h = refl
 faults-asks (stopped y) one two h = refl
 faults-asks (item i next) one two h = h i next refl
 
-faults-follow : Follows none fault_or
+faults-follow : Follows None fault_or
 faults-follow = record { ends = λ rest. refl; asks = faults-asks }
 
 module _ (list : List ℕ) where
@@ -91,14 +91,14 @@ module _ (list : List ℕ) where
 
   pub fault-step : (p : ℕ) → p ≤ length list → fault_from list p ≡ fault_or (read_at list_rules list p) (fault_from list)
   unfolding fault_from
-  fault-step p h = read_step none fault_or faults-follow list p h
+  fault-step p h = read_step None fault_or faults-follow list p h
 
   -- at the end there is no name, and no fault
   pub names-end : (p : ℕ) → p ≡ length list → names_from list p ≡ []
   names-end p e =
       names-step p (omega arith) ∙ ap (λ (x : Reading). name_and x (names_from list)) (read_at-end list_rules list p e)
 
-  pub fault-end : (p : ℕ) → p ≡ length list → fault_from list p ≡ none
+  pub fault-end : (p : ℕ) → p ≡ length list → fault_from list p ≡ None
   fault-end p e =
       fault-step p (omega arith) ∙ ap (λ (x : Reading). fault_or x (fault_from list)) (read_at-end list_rules list p e)
 
@@ -112,5 +112,5 @@ module _ (list : List ℕ) where
     fault-name i next e = fault-step p inside ∙ ap (λ (x : Reading). fault_or x (fault_from list)) e
 
     -- a record that is refused
-    pub fault-stopped : (y : Refusal) → read_at list_rules list p ≡ stopped y → fault_from list p ≡ some y
+    pub fault-stopped : (y : Refusal) → read_at list_rules list p ≡ stopped y → fault_from list p ≡ Some y
     fault-stopped y e = fault-step p inside ∙ ap (λ (x : Reading). fault_or x (fault_from list)) e

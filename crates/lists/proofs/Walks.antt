@@ -3,7 +3,7 @@
 use mathlib.Core.Path.{◌≡◌, sym, ap, ◌∙◌}
 use Prim.Native.Nat.{ℕ, ◌+◌, ◌-◌, ◌≤◌, ◌<◌}
 use native.Mathlib.Omega.{arith}
-use mathlib.Core.Option.{none}
+use Rattle.std.specs.Prelude.{None}
 use mathlib.Core.List.{List, ◌∷◌, ◌++◌, map}
 use lib.ListN.{length, take, drop, set, length-append, length-map, length-drop}
 use lib.Seq.{length-take-le}
@@ -27,9 +27,9 @@ module _ (key : List ℕ → List ℕ) (list : List ℕ) where
   -- the list is walked over up to a position
   pub record Walking (p : ℕ) : Type 0 where
     pub inside : p ≤ length list
-    pub whole : fault_from list p ≡ none
+    pub whole : fault_from list p ≡ None
 
-  pub walking_start : list_fault list ≡ none → Walking 0
+  pub walking_start : list_fault list ≡ None → Walking 0
   walking_start e = record { inside = omega arith; whole = e }
 
   module _ {p : ℕ} (w : Walking p) (r : NamePlace) (n : NameRead list p r) where
@@ -83,7 +83,7 @@ module _ (key : List ℕ → List ℕ) (list : List ℕ) where
     pub walking : Walking p
     pub putting : Putting (keys_at 0) from store₀ index ends₀ (keys_at p) last i store ends
 
-  pub names-start : (from : ℕ) (store : List ℕ) (index : ℕ) (ends : List ℕ) → list_fault list ≡ none
+  pub names-start : (from : ℕ) (store : List ℕ) (index : ℕ) (ends : List ℕ) → list_fault list ≡ None
       → PuttingNames from store index ends 0 from index store ends
   names-start from store index ends e = record {
     walking = walking_start e;

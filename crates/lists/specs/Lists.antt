@@ -2,9 +2,9 @@
 -- what it answers, and what it leaves in the store and in the arrays.
 -- Assumes nothing.
 use Rattle.std.specs.Prelude.{◌≡◌, ℕ, List, [], ◌∷◌, ◌++◌, map, ltb, length}
-use Rattle.std.proofs.Math.Option.{Option, none, some}
+use Rattle.std.specs.Prelude.{Option, None, Some, Result}
 use Rattle.terms.specs.Lists.{over}
-use Rattle.terms.specs.Refusals.{names_most, refusal, check, first, Outcome, refused, gives, answer}
+use Rattle.terms.specs.Refusals.{names_most, refusal, check, first, Outcome, outcome, answer}
 use Rattle.terms.specs.declared.Collation.{Collation}
 use Rattle.terms.specs.declared.Refusal.{Refusal}
 use Rattle.table.specs.Table.{Table, table, mapping_of}
@@ -14,8 +14,7 @@ use Rattle.storing.specs.Stored.{keys_under, joined}
 use Rattle.storing.specs.Rooms.{store_check, arrays_check}
 use Rattle.partners.specs.Partners.{equal_pairs_of, partnered, partner_of, key_positions}
 use Rattle.lists.specs.Names.{names_in, list_fault}
-use Rattle.lists.specs.declared.Shared.{Shared}
-use Rattle.lists.specs.declared.Shared.TheVariants.{Found, Refused}
+use Rattle.lists.specs.declared.Totals.{Totals}
 
 -- ---- a call
 
@@ -60,8 +59,8 @@ all_keys c = joined (first_keys c ++ second_keys c)
 
 -- a refusal with its place: "place 1 or 2 for the list in 11 to 14"
 abbrev pub placed : ℕ → Option Refusal → Option Refusal
-placed place none = none
-placed place (some x) = some (refusal x.number place x.detail)
+placed place None = None
+placed place (Some x) = Some (refusal x.number place x.detail)
 
 -- "14 over 1,024 names"
 abbrev pub count_check : ℕ → ℕ → Option Refusal
@@ -113,19 +112,25 @@ shared_values c =
     ∷ partnered (first_keys c) (second_keys c)
     ∷ []
 
--- the same of what the call answers
+-- what the call answers: what the lists share, or the refusal
+abbrev pub Shared : Type 0
+Shared = Result Totals Refusal
+
+-- the same in the papers' numbers
+abbrev pub totals_numbers : Totals → List ℕ
+totals_numbers s = s.first_names ∷ s.second_names ∷ s.equal_pairs ∷ s.partnered ∷ []
+
 abbrev pub shared_outcome : Shared → Outcome
-shared_outcome (Found s) = gives (s.first_names ∷ s.second_names ∷ s.equal_pairs ∷ s.partnered ∷ [])
-shared_outcome (Refused r) = refused r
+shared_outcome r = outcome totals_numbers r
 
 -- store, partners and positions after a call: "both stay beyond that"; on a refusal all stay
 abbrev pub slices_after : Option Refusal → ListsCall → List (List ℕ)
-slices_after none c =
+slices_after None c =
     over (all_keys c) c.store
     ∷ over (map (partner_of (second_keys c)) (first_keys c)) c.partners
     ∷ over (key_positions (first_keys c)) c.positions
     ∷ []
-slices_after (some r) c = c.store ∷ c.partners ∷ c.positions ∷ []
+slices_after (Some r) c = c.store ∷ c.partners ∷ c.positions ∷ []
 
 -- the pages after a call: filled where none of 1, 11 to 14, 3 to 7 and 15 applies
 abbrev pub pages_after : ListsCall → Pages

@@ -1,7 +1,7 @@
 -- The names of a list (document 02, request 3): a list is kind 1 records, one after another.
 -- Assumes nothing.
 use Rattle.std.specs.Prelude.{ℕ, zero, suc, ◌-◌, List, [], ◌∷◌, length}
-use Rattle.std.proofs.Math.Option.{Option, none, some}
+use Rattle.std.specs.Prelude.{Option, None, Some}
 use Rattle.terms.specs.declared.Refusal.{Refusal}
 use Rattle.records.specs.Items.{list_rules, of_text, of_key}
 use Rattle.records.specs.Reading.{Reading, end, stopped, item, read_at}
@@ -15,8 +15,8 @@ name_and (item (of_key f k) next) rest = rest next
 
 -- the refusal of what was read, or else of what follows from the next position on
 abbrev pub fault_or : Reading → (ℕ → Option Refusal) → Option Refusal
-fault_or end rest = none
-fault_or (stopped x) rest = some x
+fault_or end rest = None
+fault_or (stopped x) rest = Some x
 fault_or (item i next) rest = rest next
 
 -- reading a list from a position on, record by record, in at most so many steps: what was read, and then the rest
@@ -31,7 +31,7 @@ names_from list p = read_on [] name_and (length list - p) list p
 
 -- "11 to 13 .., record by record": the refusal of the first record from a position on that has one (`fault-step`)
 unfoldable pub fault_from : List ℕ → ℕ → Option Refusal
-fault_from list p = read_on none fault_or (length list - p) list p
+fault_from list p = read_on None fault_or (length list - p) list p
 
 -- the names of a list
 abbrev pub names_in : List ℕ → List (List ℕ)

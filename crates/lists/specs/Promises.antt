@@ -1,7 +1,8 @@
 -- What the contracts of the inner functions say with the definitions of the other files.
 -- Assumes nothing.
 use Rattle.std.specs.Prelude.{◌≡◌, ℕ, ◌-◌, ◌*◌, ◌≤◌, List, ◌++◌, length, take, drop}
-use Rattle.std.proofs.Math.Option.{Option, none, some}
+use Rattle.std.specs.Prelude.{Option, None, Some, Result, Ok}
+use Rattle.std.specs.Result.{result_err}
 use Rattle.terms.specs.Lists.{total, over}
 use Rattle.terms.specs.Refusals.{names_most, text_most, first}
 use Rattle.terms.specs.declared.Collation.{Collation}
@@ -12,13 +13,10 @@ use Rattle.partners.specs.Promises.{Finds}
 use Rattle.partners.specs.declared.Totals.{Totals}
 use Rattle.lists.specs.Names.{names_in, list_fault}
 use Rattle.storing.specs.Stored.{joined, ends_from}
-use Rattle.lists.specs.Lists.{names_checks}
+use Rattle.lists.specs.Lists.{placed, names_checks}
+use Rattle.lists.specs.declared.checks.CheckedLists.{CheckedLists}
 use Rattle.lists.specs.declared.names.NameCount.{NameCount}
 use Rattle.lists.specs.declared.names.NamePlace.{NamePlace}
-use Rattle.lists.specs.declared.names.Listing.{Listing}
-use Rattle.lists.specs.declared.names.Listing.TheVariants.{Names, Refused}
-use Rattle.lists.specs.declared.checks.ListsCheck.{ListsCheck}
-use Rattle.lists.specs.declared.checks.ListsCheck.TheVariants.{Passed, Refused as Stopped}
 
 -- the octets that the names of a list have together
 abbrev pub name_octets : List ℕ → ℕ
@@ -40,25 +38,20 @@ pub record Counted (list : List ℕ) (n : NameCount) : Type 0 where
   pub names : n.names ≡ length (names_in list)
   pub octets : n.octets ≡ name_octets list
 
--- the refusal that reading a list answers, if it is one
-abbrev pub listing_refusal : Listing → Option Refusal
-listing_refusal (Names n) = none
-listing_refusal (Refused r) = some r
-
 -- a list was read: its refusal, and else its names counted
-pub record Lists (list : List ℕ) (r : Listing) : Type 0 where
-  pub refusal : listing_refusal r ≡ list_fault list
-  pub counted : (n : NameCount) → r ≡ Names n → Counted list n
+pub record Lists (list : List ℕ) (r : Result NameCount Refusal) : Type 0 where
+  pub refusal : result_err r ≡ list_fault list
+  pub counted : (n : NameCount) → r ≡ Ok n → Counted list n
 
--- the refusal that the check of two lists answers, if it is one
-abbrev pub lists_check_refusal : ListsCheck → Option Refusal
-lists_check_refusal (Passed k n m) = none
-lists_check_refusal (Stopped r) = some r
+-- the same of the first or the second list, which the refusal names
+pub record ListsIn (place : ℕ) (list : List ℕ) (r : Result NameCount Refusal) : Type 0 where
+  pub refusal : result_err r ≡ placed place (list_fault list)
+  pub counted : (n : NameCount) → r ≡ Ok n → Counted list n
 
 -- two lists were checked for 1 and 11 to 14: the refusal, and else the collation and both counted
-pub record ChecksLists (o : Option Collation) (one two : List ℕ) (r : ListsCheck) : Type 0 where
-  pub refusal : lists_check_refusal r ≡ first (names_checks o one two)
-  pub known : (k : Collation) (n m : NameCount) → r ≡ Passed k n m → (o ≡ some k) × Counted one n × Counted two m
+pub record ChecksLists (o : Option Collation) (one two : List ℕ) (r : Result CheckedLists Refusal) : Type 0 where
+  pub refusal : result_err r ≡ first (names_checks o one two)
+  pub known : (c : CheckedLists) → r ≡ Ok c → (o ≡ Some c.collation) × Counted one c.first × Counted two c.second
 
 -- keys were put at the start of a store, one after another, and their ends at the start of a row
 pub record PutsAll (ks : List (List ℕ)) (store ends storeAfter endsAfter : List ℕ) : Type 0 where
@@ -67,7 +60,7 @@ pub record PutsAll (ks : List (List ℕ)) (store ends storeAfter endsAfter : Lis
 
 -- a list has so many names, and at most 1,024
 pub record Named (list : List ℕ) (n : ℕ) : Type 0 where
-  pub whole : list_fault list ≡ none
+  pub whole : list_fault list ≡ None
   pub names : n ≡ length (names_in list)
   pub most : n ≤ names_most
 

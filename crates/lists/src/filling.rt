@@ -1,6 +1,6 @@
 // Calls on two lists that passed 1, 11 to 14, 3 to 7 and 15: only 8 is left, and then the report is written.
 ghost use Rattle.std.specs.Prelude.{◌≡◌, [], ◌∷◌, ◌++◌, map, ◌≤◌, length};
-ghost use Rattle.std.proofs.Math.Option.{some};
+ghost use Rattle.std.specs.Prelude.{Some};
 ghost use Rattle.table.specs.Table.{table, mapping_of};
 ghost use Rattle.pages.specs.Pages.{pages};
 ghost use Rattle.keys.specs.Keys.{key_of, UsableUnder};
@@ -9,13 +9,13 @@ ghost use Rattle.storing.specs.Stored.{joined};
 ghost use Rattle.lists.specs.Lists.{lists_call, rooms_refusal, Shares};
 ghost use Rattle.lists.specs.Promises.{Named, Listed, Reports};
 
-use super::{Shared, Totals};
+use super::Totals;
 use crate::checks::check_store;
 use crate::names::NameCount;
 use crate::putting::put_both;
 use partners::find_partners;
 use storing::check_arrays;
-use terms::{Check, Collation};
+use terms::{Collation, Refusal};
 
 // The most names of two lists.
 const BOTH_MOST: usize = 2 * terms::NAMES_MOST;
@@ -34,17 +34,17 @@ pub fn fill_lists(
     store: &mut [u8],
     partners: &mut [u32],
     positions: &mut [u32],
-) -> Shared
+) -> Result<Totals, Refusal>
     requires usable_under { UsableUnder collation (table entries.now pool.now) (pages presence.now ranks.now) }
     requires listed { Listed first.now one }
     requires listed_2 { Listed second.now two }
-    ensures { let c = lists_call (some collation) first.now second.now entries.now
+    ensures { let c = lists_call (Some collation) first.now second.now entries.now
         pool.now presence.now ranks.now store.old partners.old
         positions.old in
         Shares (rooms_refusal c) c result (store.new ∷ partners.new ∷ positions.new ∷ []) }
 {
     let octets = one.octets + two.octets;
-    if let Check::Refused(r) = check_store(
+    check_store(
         collation,
         first,
         second,
@@ -54,17 +54,13 @@ pub fn fill_lists(
         presence,
         ranks,
         store.len(),
-    ) {
-        return Shared::Refused(r);
-    }
-    if let Check::Refused(r) = check_arrays(partners.len(), positions.len(), one.names) {
-        return Shared::Refused(r);
-    }
+    )?;
+    check_arrays(partners.len(), positions.len(), one.names)?;
     let totals = report(
         collation, first, second, one.names, two.names, entries, pool, presence, ranks, store,
         partners, positions,
     );
-    Shared::Found(Totals {
+    Ok(Totals {
         first_names: one.names,
         second_names: two.names,
         equal_pairs: totals.equal_pairs,

@@ -17,9 +17,8 @@ ghost use Rattle.pages.specs.Pages.{pages};
 ghost use Rattle.prepare.specs.Calls.{UsableBy};
 ghost use Rattle.lists.specs.Lists.{lists_call, lists_refusal, Shares, SharesPaging};
 
-use checks::{ListsCheck, check_lists};
+use checks::check_lists;
 use filling::fill_lists;
-use prepare::CallCheck;
 use terms::Refusal;
 
 // What two lists share.
@@ -32,13 +31,6 @@ pub struct Totals {
     pub equal_pairs: u64,
     // Names of the first list with any partner in the second.
     pub partnered: usize,
-}
-
-// Which names two lists share.
-#[derive(Clone, Copy)]
-pub enum Shared {
-    Found(Totals),
-    Refused(Refusal),
 }
 
 // Finds which names two lists share. The keys of all names are left in the store, the lowest partner of each name of the first
@@ -54,28 +46,30 @@ pub fn find_shared(
     store: &mut [u8],
     partners: &mut [u32],
     positions: &mut [u32],
-) -> Shared
+) -> Result<Totals, Refusal>
     ensures { let c = lists_call (collation_of collation) first.now second.now
         entries.now pool.now presence.old ranks.old store.old
         partners.old positions.old in
         SharesPaging c result (store.new ∷ partners.new ∷ positions.new ∷ [])
         (pages presence.new ranks.new) }
 {
-    let checked = check_lists(collation, first, second);
-    match checked {
-        ListsCheck::Passed(known, one, two) => {
-            // Two empty texts pass 2, so that only the checks of the table and of the pages are left to this call.
-            let called = prepare::check_call(collation, 0, 0, entries, pool, presence, ranks);
-            match called {
-                CallCheck::Passed(_) => fill_lists(
-                    known, first, second, one, two, entries, pool, presence, ranks, store,
-                    partners, positions,
-                ),
-                CallCheck::Refused(r) => Shared::Refused(r),
-            }
-        }
-        ListsCheck::Refused(r) => Shared::Refused(r),
-    }
+    let checked = check_lists(collation, first, second)?;
+    // Two empty texts pass 2, so that only the checks of the table and of the pages are left to this call.
+    prepare::check_call(collation, 0, 0, entries, pool, presence, ranks)?;
+    fill_lists(
+        checked.collation,
+        first,
+        second,
+        checked.first,
+        checked.second,
+        entries,
+        pool,
+        presence,
+        ranks,
+        store,
+        partners,
+        positions,
+    )
 }
 
 // As `find_shared`, over a table that is accepted already, with its pages.
@@ -90,19 +84,26 @@ pub fn find_shared_accepted(
     store: &mut [u8],
     partners: &mut [u32],
     positions: &mut [u32],
-) -> Shared
+) -> Result<Totals, Refusal>
     requires { UsableBy (collation_of collation) (table entries.now pool.now) (pages presence.now ranks.now) }
     ensures { let c = lists_call (collation_of collation) first.now second.now
         entries.now pool.now presence.now ranks.now store.old
         partners.old positions.old in
         Shares (lists_refusal c) c result (store.new ∷ partners.new ∷ positions.new ∷ []) }
 {
-    let checked = check_lists(collation, first, second);
-    match checked {
-        ListsCheck::Passed(known, one, two) => fill_lists(
-            known, first, second, one, two, entries, pool, presence, ranks, store, partners,
-            positions,
-        ),
-        ListsCheck::Refused(r) => Shared::Refused(r),
-    }
+    let checked = check_lists(collation, first, second)?;
+    fill_lists(
+        checked.collation,
+        first,
+        second,
+        checked.first,
+        checked.second,
+        entries,
+        pool,
+        presence,
+        ranks,
+        store,
+        partners,
+        positions,
+    )
 }

@@ -1,6 +1,6 @@
 // The keys of a list's names: how many octets they have, and putting them one after another into the store.
 ghost use Rattle.std.specs.Prelude.{◌≡◌, map, ◌++◌, ◌+◌, ◌≤◌, length};
-ghost use Rattle.std.proofs.Math.Option.{none};
+ghost use Rattle.std.specs.Prelude.{None};
 ghost use Rattle.table.specs.Table.{table, mapping_of};
 ghost use Rattle.pages.specs.Pages.{pages};
 ghost use Rattle.keys.specs.Keys.{key_of, UsableUnder};
@@ -22,13 +22,14 @@ pub fn size_keys(
     ranks: &[u64],
 ) -> usize
     requires usable_under { UsableUnder collation (table entries.now pool.now) (pages presence.now ranks.now) }
-    requires list_value { list_fault list.now ≡ none }
+    requires list_value { list_fault list.now ≡ None }
     requires list_bound { name_octets list.now ≤ octets_most }
     ensures { result ≡ length (joined (map (key_of collation (mapping_of (table entries.now pool.now)))
         (names_in list.now))) }
 {
     let mut at = RecordPosition(0);
     let mut size = 0;
+    // No `for`: a step is as long as the record that was read.
     while at.0 < list.len() {
         let place = name_at(list, at);
         let start = place.start.0;
@@ -54,8 +55,8 @@ pub fn put_both(
     ends: &mut [usize],
 )
     requires usable_under { UsableUnder collation (table entries.now pool.now) (pages presence.now ranks.now) }
-    requires first_value { list_fault first.now ≡ none }
-    requires second_value { list_fault second.now ≡ none }
+    requires first_value { list_fault first.now ≡ None }
+    requires second_value { list_fault second.now ≡ None }
     requires first_names_value { first_names ≡ length (names_in first.now) }
     requires second_in_bounds { first_names + length (names_in second.now) ≤ length ends.old }
     requires second_in_bounds_2 { length (joined (map (key_of collation (mapping_of (table entries.now pool.now))) (names_in first.now)
@@ -96,7 +97,7 @@ fn put_keys(
     ends: &mut [usize],
 ) -> usize
     requires usable_under { UsableUnder collation (table entries.now pool.now) (pages presence.now ranks.now) }
-    requires list_value { list_fault list.now ≡ none }
+    requires list_value { list_fault list.now ≡ None }
     requires list_in_bounds { from + length (joined (map (key_of collation (mapping_of (table entries.now pool.now)))
         (names_in list.now))) ≤ length store.old }
     requires list_in_bounds_2 { index + length (names_in list.now) ≤ length ends.old }
@@ -107,6 +108,7 @@ fn put_keys(
     let mut at = RecordPosition(0);
     let mut end = from;
     let mut i = index;
+    // No `for`: a step is as long as the record that was read.
     while at.0 < list.len() {
         let place = name_at(list, at);
         let start = place.start.0;

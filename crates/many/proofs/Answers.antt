@@ -2,7 +2,7 @@
 -- Assumes nothing.
 use mathlib.Core.Path.{◌≡◌, refl, sym, ap, ◌∙◌}
 use Prim.Native.Nat.{ℕ, ◌-◌, ◌≤◌, ◌<◌}
-use mathlib.Core.Option.{Option, none, some}
+use Rattle.std.specs.Prelude.{Option, None, Some, Ok, Err}
 use mathlib.Core.List.{List, [], ◌∷◌}
 use lib.ListN.{length, get_or}
 use borrow.Author.Tests.{ltb-false}
@@ -16,16 +16,14 @@ use Rattle.pages.specs.Pages.{Pages}
 use Rattle.prepare.specs.Calls.{lookup_check, pages_by}
 use Rattle.sorting.specs.KeyOrder.{start_of}
 use Rattle.storing.proofs.Ending.{string_at-none, ends-few, ends-passed}
-use Rattle.many.specs.Many.{ManyCall, many_keys, many_valid, long_text, texts_checks, rooms_refusal, ready_refusal}
+use Rattle.many.specs.Many.{Batch, ManyCall, many_keys, many_valid, long_text, texts_checks, rooms_refusal, ready_refusal}
 use Rattle.many.specs.Many.{many_refusal, slices_after, pages_after, PreparesMany}
 use Rattle.many.specs.Promises.{Texts, PutsMany}
-use Rattle.many.specs.declared.Batch.{Batch}
-use Rattle.many.specs.declared.Batch.TheVariants.{Prepared, Refused}
 
 -- ---- the checks that were passed
 
-module _ (o : Option Collation) (octets ends : List ℕ) (passed : none ≡ first (texts_checks o (length octets) ends)) where
-  checks-none : (i : ℕ) → get_or (texts_checks o (length octets) ends) i none ≡ none
+module _ (o : Option Collation) (octets ends : List ℕ) (passed : None ≡ first (texts_checks o (length octets) ends)) where
+  checks-none : (i : ℕ) → get_or (texts_checks o (length octets) ends) i None ≡ None
   checks-none = first-none (texts_checks o (length octets) ends) (sym passed)
 
   short : (i : ℕ) → i < length ends → get_or ends i 0 - start_of ends i ≤ text_most
@@ -45,19 +43,19 @@ module _ (o : Option Collation) (octets ends : List ℕ) (passed : none ≡ firs
 
 module _ (c : ManyCall) where
   -- 1, 14, 36 and 2 first
-  pub refused-texts : {r : Refusal} → some r ≡ first (texts_checks c.collation (length c.octets) c.ends)
-      → many_refusal c ≡ some r
+  pub refused-texts : {r : Refusal} → Some r ≡ first (texts_checks c.collation (length c.octets) c.ends)
+      → many_refusal c ≡ Some r
   unfolding many_refusal
   refused-texts e = rw (← e) refl
 
   -- and the pages stay then
-  pub paged-texts : {r : Refusal} → some r ≡ first (texts_checks c.collation (length c.octets) c.ends)
+  pub paged-texts : {r : Refusal} → Some r ≡ first (texts_checks c.collation (length c.octets) c.ends)
       → c.pages ≡ pages_after c
   paged-texts e = rw (← e) refl
 
-  module _ (texts : none ≡ first (texts_checks c.collation (length c.octets) c.ends)) where
+  module _ (texts : None ≡ first (texts_checks c.collation (length c.octets) c.ends)) where
     -- then 3 to 7 and 15
-    pub refused-lookup : {r : Refusal} → lookup_check c.collation c.table c.pages ≡ some r → many_refusal c ≡ some r
+    pub refused-lookup : {r : Refusal} → lookup_check c.collation c.table c.pages ≡ Some r → many_refusal c ≡ Some r
     unfolding many_refusal
     refused-lookup e = rw (← texts, e) refl
 
@@ -71,15 +69,15 @@ module _ (c : ManyCall) where
     paged-lookup e = e ∙ ap (λ (x : Option Refusal). pages_by x c.collation c.table c.pages) (sym ready-lookup)
 
     -- then 8
-    pub refused-rooms : lookup_check c.collation c.table c.pages ≡ none → many_refusal c ≡ rooms_refusal c
+    pub refused-rooms : lookup_check c.collation c.table c.pages ≡ None → many_refusal c ≡ rooms_refusal c
     unfolding many_refusal
     refused-rooms e = rw (← texts, e) (or_else-none (rooms_refusal c))
 
 -- ---- answers
 
 -- a refusal: the slices stay
-pub many-refused : {x : Option Refusal} (c : ManyCall) (r : Refusal) → x ≡ some r
-    → PreparesMany x c (Refused r) (c.store ∷ c.key_ends ∷ c.valid ∷ [])
+pub many-refused : {x : Option Refusal} (c : ManyCall) (r : Refusal) → x ≡ Some r
+    → PreparesMany x c (Err r) (c.store ∷ c.key_ends ∷ c.valid ∷ [])
 many-refused c r e = rw e (record { answered = refl; left = refl })
 
 -- the same call with what is left of its refusal
@@ -106,11 +104,11 @@ pub many-repaged : {x : Option Refusal} (c : ManyCall) (p : Pages) {r : Batch} {
 many-repaged {x} c p h = record { answered = h.answered; left = h.left ∙ slices x }
   where
     slices : (y : Option Refusal) → slices_after y (repaged c p) ≡ slices_after y c
-    slices none = refl
-    slices (some r) = refl
+    slices None = refl
+    slices (Some r) = refl
 
 -- keys
-pub many-prepared : {x : Option Refusal} (c : ManyCall) (n : ℕ) {store key_ends valid : List ℕ} → x ≡ none
+pub many-prepared : {x : Option Refusal} (c : ManyCall) (n : ℕ) {store key_ends valid : List ℕ} → x ≡ None
     → PutsMany (many_keys c) (many_valid c) c.store c.key_ends c.valid n store key_ends valid
-    → PreparesMany x c (Prepared n) (store ∷ key_ends ∷ valid ∷ [])
+    → PreparesMany x c (Ok n) (store ∷ key_ends ∷ valid ∷ [])
 many-prepared c n e p = rw e (record { answered = cc p.size; left = cc (p.stored, p.ended, p.checked) })

@@ -1,9 +1,9 @@
 -- Keys put one after another, their ends, and whether their texts are valid: what is written and what is left to write are all.
 -- Assumes nothing.
-use mathlib.Core.Path.{◌≡◌, refl, sym, ap, ◌∙◌}
+use mathlib.Core.Path.{◌≡◌, sym, ap, ◌∙◌}
 use Prim.Native.Nat.{ℕ, ◌+◌, ◌≤◌, ◌<◌}
 use native.Mathlib.Omega.{arith}
-use mathlib.Core.List.{List, [], ◌∷◌, ◌++◌, map}
+use mathlib.Core.List.{List, ◌++◌, map}
 use lib.ListN.{length, take, drop, get_or, set, length-map}
 use lib.Seq.{take-length}
 use Rattle.terms.specs.Lists.{over}

@@ -9,7 +9,7 @@ use lib.Seq.{drop-cons, take-length, length-take-le}
 use Rattle.terms.specs.Lists.{total}
 use Rattle.terms.specs.Refusals.{text_most, expansion_most}
 use Rattle.terms.proofs.Lists.{total_take_more}
-use Rattle.sorting.specs.KeyOrder.{start_of, key_in, Ends}
+use Rattle.sorting.specs.KeyOrder.{start_of, key_in}
 use Rattle.sorting.specs.Sorted.{numbers}
 use Rattle.storing.specs.Stored.{joined, strings_in}
 use Rattle.storing.proofs.Ended.{joined-most}

@@ -3,9 +3,9 @@
 -- has this call: docs/DECISIONS.md says how its refusals were chosen.
 -- Assumes nothing.
 use Rattle.std.specs.Prelude.{◌≡◌, ℕ, ◌-◌, Bool, List, [], ◌∷◌, map, ltb, length, get_or}
-use Rattle.std.proofs.Math.Option.{Option, none, some}
+use Rattle.std.specs.Prelude.{Option, None, Some, Result}
 use Rattle.terms.specs.Lists.{lowest, over}
-use Rattle.terms.specs.Refusals.{text_most, first, Outcome, refused, gives, answer}
+use Rattle.terms.specs.Refusals.{text_most, first, Outcome, outcome, answer}
 use Rattle.terms.specs.declared.Collation.{Collation}
 use Rattle.terms.specs.declared.Refusal.{Refusal}
 use Rattle.table.specs.Mapping.{Mapping}
@@ -18,8 +18,6 @@ use Rattle.sorting.specs.KeyOrder.{start_of}
 use Rattle.storing.specs.Ends.{string_at, ends_refusal}
 use Rattle.storing.specs.Rooms.{store_check, arrays_check}
 use Rattle.storing.specs.Stored.{keys_under, joined, ends_from, strings_in}
-use Rattle.many.specs.declared.Batch.{Batch}
-use Rattle.many.specs.declared.Batch.TheVariants.{Prepared, Refused}
 
 -- ---- a call
 
@@ -58,8 +56,8 @@ many_keys c = keys_under c.collation (mapping_of c.table) (texts_of c)
 
 -- whether texts are valid, as numbers; a number that is no collation's gives none
 abbrev pub valid_under : Option Collation → Mapping → List (List ℕ) → List ℕ
-valid_under none m ts = []
-valid_under (some k) m ts = map (λ t. truth (prepared k m t).valid) ts
+valid_under None m ts = []
+valid_under (Some k) m ts = map (λ t. truth (prepared k m t).valid) ts
 
 -- the same of a call's texts
 abbrev pub many_valid : ManyCall → List ℕ
@@ -110,19 +108,22 @@ many_refusal c =
 abbrev pub many_values : ManyCall → List ℕ
 many_values c = length (joined (many_keys c)) ∷ []
 
--- the same of what the call answers
+-- what the call answers: the octets of all keys together, or the refusal
+abbrev pub Batch : Type 0
+Batch = Result ℕ Refusal
+
+-- the same in the numbers of documents 01 and 02
 abbrev pub batch_outcome : Batch → Outcome
-batch_outcome (Prepared n) = gives (n ∷ [])
-batch_outcome (Refused r) = refused r
+batch_outcome r = outcome (λ n. n ∷ []) r
 
 -- store, ends of keys and validity after a call: they stay beyond what is written, and on a refusal all stay
 abbrev pub slices_after : Option Refusal → ManyCall → List (List ℕ)
-slices_after none c =
+slices_after None c =
     over (joined (many_keys c)) c.store
     ∷ over (ends_from 0 (many_keys c)) c.key_ends
     ∷ over (many_valid c) c.valid
     ∷ []
-slices_after (some r) c = c.store ∷ c.key_ends ∷ c.valid ∷ []
+slices_after (Some r) c = c.store ∷ c.key_ends ∷ c.valid ∷ []
 
 -- the pages after a call: filled where none of 1, 14, 36, 2, 3 to 7 and 15 applies
 abbrev pub pages_after : ManyCall → Pages

@@ -1,21 +1,20 @@
 -- What the contracts of the inner functions say with the definitions of the other file.
 -- Assumes nothing.
 use Rattle.std.specs.Prelude.{◌≡◌, ℕ, ◌-◌, ◌≤◌, ◌<◌, List, length, get_or}
-use Rattle.std.proofs.Math.Option.{Option, some}
+use Rattle.std.specs.Prelude.{Option, Some, Result, Ok}
+use Rattle.std.specs.Result.{result_err}
+use Rattle.terms.specs.declared.Refusal.{Refusal}
 use Rattle.terms.specs.Lists.{over}
 use Rattle.terms.specs.Refusals.{text_most, ends_most, first}
 use Rattle.terms.specs.declared.Collation.{Collation}
-use Rattle.prepare.specs.Promises.{call_check_refusal}
-use Rattle.prepare.specs.declared.CallCheck.{CallCheck}
-use Rattle.prepare.specs.declared.CallCheck.TheVariants.{Passed}
 use Rattle.sorting.specs.KeyOrder.{start_of, Ends}
 use Rattle.storing.specs.Stored.{joined, ends_from}
 use Rattle.many.specs.Many.{texts_checks}
 
 -- many texts were checked for 1, 14, 36 and 2: the refusal, and else the collation
-pub record ChecksMany (o : Option Collation) (octets : ℕ) (ends : List ℕ) (r : CallCheck) : Type 0 where
-  pub refusal : call_check_refusal r ≡ first (texts_checks o octets ends)
-  pub known : (k : Collation) → r ≡ Passed k → o ≡ some k
+pub record ChecksMany (o : Option Collation) (octets : ℕ) (ends : List ℕ) (r : Result Collation Refusal) : Type 0 where
+  pub refusal : result_err r ≡ first (texts_checks o octets ends)
+  pub known : (k : Collation) → r ≡ Ok k → o ≡ Some k
 
 -- the ends are those of texts within the limit, and not too many
 pub record Texts (octets ends : List ℕ) : Type 0 where

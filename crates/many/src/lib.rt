@@ -16,19 +16,10 @@ ghost use Rattle.many.specs.Many.{many_call, PreparesManyPaging};
 
 use checks::check_many;
 use filling::fill_many;
-use prepare::CallCheck;
 use terms::Refusal;
 
-// What preparing many texts answers.
-#[derive(Clone, Copy)]
-pub enum Batch {
-    // The octets of all keys together.
-    Prepared(usize),
-    Refused(Refusal),
-}
-
 // Prepares many texts under a collation: all keys are left in the store, one after another, where each ends in key_ends, and
-// whether each text is valid in valid.
+// whether each text is valid in valid. Answers the octets of all keys together.
 pub fn prepare_many(
     collation: u32,
     octets: &[u8],
@@ -40,25 +31,17 @@ pub fn prepare_many(
     store: &mut [u8],
     key_ends: &mut [usize],
     valid: &mut [u8],
-) -> Batch
+) -> Result<usize, Refusal>
     ensures { let c = many_call (collation_of collation) octets.now ends.now
         entries.now pool.now presence.old ranks.old store.old
         key_ends.old valid.old in
         PreparesManyPaging c result (store.new ∷ key_ends.new ∷ valid.new ∷ [])
         (pages presence.new ranks.new) }
 {
-    let checked = check_many(collation, octets.len(), ends);
-    match checked {
-        CallCheck::Passed(known) => {
-            // Two empty texts pass 2, so that only the checks of the table and of the pages are left to this call.
-            let called = prepare::check_call(collation, 0, 0, entries, pool, presence, ranks);
-            match called {
-                CallCheck::Passed(_) => fill_many(
-                    known, octets, ends, entries, pool, presence, ranks, store, key_ends, valid,
-                ),
-                CallCheck::Refused(r) => Batch::Refused(r),
-            }
-        }
-        CallCheck::Refused(r) => Batch::Refused(r),
-    }
+    let known = check_many(collation, octets.len(), ends)?;
+    // Two empty texts pass 2, so that only the checks of the table and of the pages are left to this call.
+    prepare::check_call(collation, 0, 0, entries, pool, presence, ranks)?;
+    fill_many(
+        known, octets, ends, entries, pool, presence, ranks, store, key_ends, valid,
+    )
 }

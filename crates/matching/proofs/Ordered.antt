@@ -1,10 +1,10 @@
 -- Calls on keys: what a passed check says, keys in their order by the sorted numbers, and answers.
 -- Assumes nothing.
 use mathlib.Core.Path.{◌≡◌, refl, sym, ap, ap₂, ◌∙◌}
-use Prim.Native.Nat.{ℕ, suc, ◌+◌, ◌-◌, ◌≤◌, ◌<◌}
+use Prim.Native.Nat.{ℕ, suc, ◌+◌, ◌-◌, ◌≤◌}
 use native.Mathlib.Omega.{arith}
-use mathlib.Core.Bool.{Bool, true, ◌||◌}
-use mathlib.Core.Option.{Option, none, some}
+use mathlib.Core.Bool.{Bool, true}
+use Rattle.std.specs.Prelude.{None, Some}
 use mathlib.Core.List.{List, [], ◌∷◌, ◌++◌, map}
 use lib.Dec.{ltb}
 use lib.ListN.{length, drop, get_or, length-map}
@@ -14,7 +14,7 @@ use Rattle.terms.specs.Refusals.{ends_most, refusal, check}
 use Rattle.terms.specs.declared.Refusal.{Refusal}
 use Rattle.terms.proofs.Checks.{when-none, first-none}
 use Rattle.terms.proofs.Lists.{all_first, all_rest}
-use Rattle.sorting.specs.Sorted.{sorted, numbers}
+use Rattle.sorting.specs.Sorted.{numbers}
 use Rattle.sorting.specs.KeyOrder.{key_in, Ends, key_order}
 use Rattle.sorting.proofs.Sorting.{all-sorted, length-sorted}
 use Rattle.storing.specs.Ends.{ends_refusal}
@@ -28,7 +28,7 @@ use Rattle.partners.proofs.Those.{numbers-at, numbers-most, length-numbers}
 use Rattle.partners.proofs.Walked.{positions-by}
 use Rattle.matching.specs.Matching.{KeysCall, both_keys, in_order, repeated, keys_checked, keys_refusal, Matches}
 use Rattle.matching.specs.Promises.{sorted_numbers, MatchesIn}
-use Rattle.matching.specs.declared.Matched.TheVariants.{Found, Refused}
+use Rattle.std.specs.Prelude.{Ok, Err}
 use Rattle.matching.proofs.Repeats.{length-repeated}
 
 -- ---- the checks that were passed
@@ -42,7 +42,7 @@ pub record Fitting (octets : List ℕ) (ends : List ℕ) (first_names row repeat
   pub room : first_names ≤ partners
 
 pub checked-fits : (octets ends : List ℕ) (first_names row repeats partners : ℕ)
-    → keys_checked (length octets) ends first_names row repeats partners ≡ none
+    → keys_checked (length octets) ends first_names row repeats partners ≡ None
     → Fitting octets ends first_names row repeats partners
 unfolding keys_checked
 checked-fits octets ends first_names row repeats partners e =
@@ -115,8 +115,8 @@ module _ (store ends : List ℕ) where
 -- ---- answers
 
 -- a refusal: the rows stay
-pub matches-refused : (c : KeysCall) (r : Refusal) → keys_refusal c ≡ some r
-    → Matches c (Refused r) (c.row ∷ c.repeats ∷ c.partners ∷ [])
+pub matches-refused : (c : KeysCall) (r : Refusal) → keys_refusal c ≡ Some r
+    → Matches c (Err r) (c.row ∷ c.repeats ∷ c.partners ∷ [])
 matches-refused c r e = record { answered = rw e refl; left = rw e refl }
 
 -- a row of which the first part was filled
@@ -124,9 +124,9 @@ filled-over : (xs row : List ℕ) (n : ℕ) → length xs ≡ n → xs ++ drop n
 filled-over xs row n e = ap (λ (m : ℕ). xs ++ drop m row) (sym e)
 
 -- matches
-pub matches-found : (c : KeysCall) (t : Totals) {row repeats partners : List ℕ} → keys_refusal c ≡ none
+pub matches-found : (c : KeysCall) (t : Totals) {row repeats partners : List ℕ} → keys_refusal c ≡ None
     → MatchesIn c.store c.ends c.first_names c.partners t row repeats partners
-    → Matches c (Found t)
+    → Matches c (Ok t)
     ((row ++ drop (length c.ends) c.row) ∷ (repeats ++ drop (length c.ends) c.repeats) ∷ partners ∷ [])
 matches-found c t {row} {repeats} {partners} e m =
     let n = length c.ends in

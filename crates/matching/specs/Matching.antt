@@ -3,9 +3,9 @@
 -- found. No paper has this call: docs/DECISIONS.md says how its refusals were chosen.
 -- Assumes nothing.
 use Rattle.std.specs.Prelude.{◌≡◌, ℕ, ◌-◌, cond, List, [], ◌∷◌, map, ltb, length, get_or}
-use Rattle.std.proofs.Math.Option.{Option, none, some}
+use Rattle.std.specs.Prelude.{Option, None, Some, Result}
 use Rattle.terms.specs.Lists.{over, same}
-use Rattle.terms.specs.Refusals.{check, first, Outcome, refused, gives, answer}
+use Rattle.terms.specs.Refusals.{check, first, Outcome, outcome, answer}
 use Rattle.terms.specs.declared.Refusal.{Refusal}
 use Rattle.sorting.specs.KeyOrder.{key_in}
 use Rattle.storing.specs.Ends.{ends_refusal}
@@ -13,8 +13,7 @@ use Rattle.storing.specs.Rooms.{store_check, arrays_check}
 use Rattle.storing.specs.Stored.{strings_in}
 use Rattle.partners.specs.Partners.{equal_pairs_of, partnered, partner_of, key_positions}
 use Rattle.partners.specs.Promises.{keys_from}
-use Rattle.matching.specs.declared.Matched.{Matched}
-use Rattle.matching.specs.declared.Matched.TheVariants.{Found, Refused}
+use Rattle.partners.specs.declared.Totals.{Totals}
 
 -- ---- a call
 
@@ -79,20 +78,19 @@ abbrev pub matched_values : KeysCall → List ℕ
 matched_values c = equal_pairs_of (first_keys c) (second_keys c) ∷ partnered (first_keys c) (second_keys c) ∷ []
 
 -- the same of what the call answers
-abbrev pub matched_outcome : Matched → Outcome
-matched_outcome (Found t) = gives (t.equal_pairs ∷ t.partnered ∷ [])
-matched_outcome (Refused r) = refused r
+abbrev pub matched_outcome : Result Totals Refusal → Outcome
+matched_outcome r = outcome (λ t. t.equal_pairs ∷ t.partnered ∷ []) r
 
 -- row, repeats and partners after a call: they stay beyond what is written, and on a refusal all stay
 abbrev pub rows_after : Option Refusal → KeysCall → List (List ℕ)
-rows_after none c =
+rows_after None c =
     over (key_positions (both_keys c)) c.row
     ∷ over (repeated (in_order (both_keys c))) c.repeats
     ∷ over (map (partner_of (second_keys c)) (first_keys c)) c.partners
     ∷ []
-rows_after (some r) c = c.row ∷ c.repeats ∷ c.partners ∷ []
+rows_after (Some r) c = c.row ∷ c.repeats ∷ c.partners ∷ []
 
 -- a call was answered: its outcome is the refusal or its values, and the lent rows are those after it
-pub record Matches (c : KeysCall) (r : Matched) (after : List (List ℕ)) : Type 0 where
+pub record Matches (c : KeysCall) (r : Result Totals Refusal) (after : List (List ℕ)) : Type 0 where
   pub answered : matched_outcome r ≡ answer (keys_refusal c) (matched_values c)
   pub left : after ≡ rows_after (keys_refusal c) c

@@ -9,21 +9,16 @@
 mod rows;
 
 ghost use Rattle.std.specs.Prelude.{◌≡◌, [], ◌∷◌, ◌<◌, ◌≤◌, length};
-ghost use Rattle.terms.specs.Refusals.{refusal, check_refusal};
+ghost use Rattle.terms.specs.Refusals.{refusal};
+ghost use Rattle.std.specs.Result.{result_err};
 ghost use Rattle.sorting.specs.KeyOrder.{Ends};
 ghost use Rattle.matching.specs.Matching.{keys_call, keys_checked, Matches};
 ghost use Rattle.matching.specs.Promises.{MatchesIn};
+ghost use Rattle.terms.specs.Reasons.{reason_number};
 
 use partners::{Totals, sort_numbers, walk};
 use rows::{count_from_one, mark_repeats};
-use terms::{Check, Refusal};
-
-// What two lists of keys share.
-#[derive(Clone, Copy)]
-pub enum Matched {
-    Found(Totals),
-    Refused(Refusal),
-}
+use terms::{Reason, Refusal};
 
 // Finds which keys of two lists are equal, of which the first so many are the first list's. The numbers of all keys in their
 // order are left in row, which of them have the same key as the next in repeats, and the lowest partner of each key of the first
@@ -35,33 +30,28 @@ pub fn match_keys(
     row: &mut [u32],
     repeats: &mut [u32],
     partners: &mut [u32],
-) -> Matched
+) -> Result<Totals, Refusal>
     ensures { Matches (keys_call store.now ends.now first_names row.old
         repeats.old partners.old) result
         (row.new ∷ repeats.new ∷ partners.new ∷ []) }
 {
-    let checked = check_keys(
+    check_keys(
         store.len(),
         ends,
         first_names,
         row.len(),
         repeats.len(),
         partners.len(),
-    );
-    match checked {
-        Check::Passed => {
-            let n = ends.len();
-            Matched::Found(fill_rows(
-                store,
-                ends,
-                first_names,
-                &mut row[..n],
-                &mut repeats[..n],
-                partners,
-            ))
-        }
-        Check::Refused(r) => Matched::Refused(r),
-    }
+    )?;
+    let n = ends.len();
+    Ok(fill_rows(
+        store,
+        ends,
+        first_names,
+        &mut row[..n],
+        &mut repeats[..n],
+        partners,
+    ))
 }
 
 // Whether a call on keys in a store of so many octets, with rows of these lengths, passes 14, 36, 37 and 8.
@@ -72,31 +62,27 @@ fn check_keys(
     row: usize,
     repeats: usize,
     partners: usize,
-) -> Check
-    ensures { check_refusal result ≡ keys_checked octets ends.now first_names row repeats partners }
+) -> Result<(), Refusal>
+    ensures { result_err result ≡ keys_checked octets ends.now first_names row repeats partners }
 {
-    if let Check::Refused(r) = storing::check_ends(octets, ends) {
-        return Check::Refused(r);
-    }
+    storing::check_ends(octets, ends)?;
     let n = ends.len();
     if n < first_names {
-        return Check::Refused(refused(terms::REFUSED_FIRST_COUNT, n));
+        return Err(refused(Reason::FirstCount, n));
     }
-    if let Check::Refused(r) = storing::check_arrays(row, repeats, n) {
-        return Check::Refused(r);
-    }
+    storing::check_arrays(row, repeats, n)?;
     if partners < first_names {
-        return Check::Refused(refused(terms::REFUSED_MANY_ROOM, first_names));
+        return Err(refused(Reason::Room, first_names));
     }
-    Check::Passed
+    Ok(())
 }
 
 // A refusal of no text or list in particular.
-fn refused(number: u32, detail: usize) -> Refusal
-    ensures { result ≡ refusal number 0 detail }
+fn refused(reason: Reason, detail: usize) -> Refusal
+    ensures { result ≡ refusal (reason_number reason) 0 detail }
 {
     Refusal {
-        number,
+        reason,
         place: 0,
         detail: detail as u64,
     }

@@ -1,5 +1,5 @@
 // The rows that tell keys in order: which have the same key as the next, and the numbers counted from 1.
-ghost use Rattle.std.specs.Prelude.{◌≡◌, true, cond, map, suc, ltb, length};
+ghost use Rattle.std.specs.Prelude.{◌≡◌, true, map, suc, ltb, length};
 ghost use Rattle.terms.specs.Lists.{all};
 ghost use Rattle.terms.specs.Refusals.{ends_most};
 ghost use Rattle.sorting.specs.KeyOrder.{key_in, Ends, all_numbered};
@@ -15,21 +15,9 @@ pub fn mark_repeats(store: &[u8], ends: &[usize], row: &[u32], repeats: &mut [u3
     ensures { repeats.new ≡ repeated (map (key_in store.now ends.now)
         row.now) }
 {
-    let mut i = 0;
-    while i < row.len() {
-        repeats[i] = one_if(repeats_key(store, ends, row, i));
-        i += 1;
+    for i in 0..row.len() {
+        repeats[i] = u32::from(repeats_key(store, ends, row, i));
     }
-}
-
-// 1 for true, 0 for false.
-fn one_if(truth: bool) -> u32
-    ensures { result ≡ cond truth 1 0 }
-{
-    if truth {
-        return 1;
-    }
-    0
 }
 
 // Adds 1 to each number of a row.
@@ -37,9 +25,7 @@ pub fn count_from_one(row: &mut [u32])
     requires { all (λ x. ltb x ends_most) row.old ≡ true }
     ensures { row.new ≡ map suc row.old }
 {
-    let mut i = 0;
-    while i < row.len() {
+    for i in 0..row.len() {
         row[i] += 1;
-        i += 1;
     }
 }

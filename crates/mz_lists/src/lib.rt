@@ -15,7 +15,8 @@ ghost use Rattle.prepare.specs.Calls.{UsableBy};
 ghost use Rattle.lists.specs.Lists.{lists_call, shared_outcome};
 ghost use Rattle.mz_lists.specs.Promises.{SharesRow, SharesRowPaging};
 
-use lists::Shared;
+use lists::Totals;
+use terms::Refusal;
 
 // Finds which names two lists share.
 pub fn mz_find_shared(
@@ -71,11 +72,11 @@ pub fn mz_find_shared_accepted(
 
 // The row of what two lists share: refusal number (0 if not refused), place, detail; names in each list, equal pairs, names of
 // the first list with a partner.
-fn sharing_row(shared: Shared) -> [u64; 7]
+fn sharing_row(shared: Result<Totals, Refusal>) -> [u64; 7]
     ensures { result ≡ row 4 (shared_outcome shared) }
 {
     match shared {
-        Shared::Found(t) => [
+        Ok(t) => [
             0,
             0,
             0,
@@ -84,6 +85,6 @@ fn sharing_row(shared: Shared) -> [u64; 7]
             t.equal_pairs,
             t.partnered as u64,
         ],
-        Shared::Refused(r) => [r.number as u64, r.place as u64, r.detail, 0, 0, 0, 0],
+        Err(r) => terms::refused_row(r),
     }
 }

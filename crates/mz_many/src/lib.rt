@@ -14,8 +14,8 @@ ghost use Rattle.many.specs.Many.{many_call, batch_outcome};
 ghost use Rattle.matching.specs.Matching.{keys_call, matched_outcome};
 ghost use Rattle.mz_many.specs.Promises.{PreparesManyRowPaging, MatchesRow};
 
-use many::Batch;
-use matching::Matched;
+use partners::Totals;
+use terms::Refusal;
 
 // Prepares many texts.
 pub fn mz_prepare_many(
@@ -62,22 +62,22 @@ pub fn mz_match_keys(
 }
 
 // The row of many texts prepared: refusal number (0 if not refused), place, detail; the octets of all keys.
-fn batch_row(batch: Batch) -> [u64; 4]
+fn batch_row(batch: Result<usize, Refusal>) -> [u64; 4]
     ensures { result ≡ row 1 (batch_outcome batch) }
 {
     match batch {
-        Batch::Prepared(octets) => [0, 0, 0, octets as u64],
-        Batch::Refused(r) => [r.number as u64, r.place as u64, r.detail, 0],
+        Ok(octets) => [0, 0, 0, octets as u64],
+        Err(r) => terms::refused_row(r),
     }
 }
 
 // The row of what the keys of two lists share: refusal number (0 if not refused), place, detail; equal pairs, names of the
 // first list with a partner.
-fn matched_row(matched: Matched) -> [u64; 5]
+fn matched_row(matched: Result<Totals, Refusal>) -> [u64; 5]
     ensures { result ≡ row 2 (matched_outcome matched) }
 {
     match matched {
-        Matched::Found(t) => [0, 0, 0, t.equal_pairs, t.partnered as u64],
-        Matched::Refused(r) => [r.number as u64, r.place as u64, r.detail, 0, 0],
+        Ok(t) => [0, 0, 0, t.equal_pairs, t.partnered as u64],
+        Err(r) => terms::refused_row(r),
     }
 }

@@ -32,8 +32,7 @@ pub fn mz_interface() -> u32
 pub fn mz_check_table(entries: &[u32], pool: &[u32], answer: &mut [u64; 3])
     ensures { answer.new ≡ row 0 (table_answer (table entries.now pool.now)) }
 {
-    let check = decompose::check_table(entries, pool);
-    *answer = check_row(check);
+    *answer = check_row(decompose::check_table(entries, pool));
 }
 
 // Adds one line of UnicodeData.txt, without its line end, to a table that is being built.
@@ -55,6 +54,5 @@ pub fn mz_add_line(
         pool_used: pool_used as usize,
         next: next as usize,
     };
-    let added = builder::add_line(state, line, entries, pool);
-    *answer = line_row(added);
+    *answer = line_row(builder::add_line(state, line, entries, pool));
 }

@@ -1,5 +1,4 @@
 pub mod Cases
 pub mod Magnitudes
-pub mod Onward
 pub mod Runs
 pub mod Values

@@ -6,10 +6,10 @@ use Prim.Native.Nat.{ℕ, zero, suc, ◌+◌, ◌≤◌, ◌<◌, compare}
 use native.Mathlib.Numerals.{add-one}
 use native.Mathlib.Omega.{arith}
 use mathlib.Core.Bool.{Bool, true, false, not, cond}
-use mathlib.Core.List.{List, [], ◌∷◌, ◌++◌}
+use mathlib.Core.List.{List, [], ◌∷◌, ◌++◌, append_assoc, append-nil}
 use lib.Dec.{eqb}
-use lib.ListN.{length, drop, get_or, replicate, drop_of_length-le}
-use lib.Seq.{drop-cons}
+use lib.ListN.{length, take, drop, get_or, replicate, drop_of_length-le}
+use lib.Seq.{drop-cons, take-suc, take-length}
 use borrow.Author.Tests.{eqb-true, eq-eqb, ne_eqb}
 use Rattle.terms.specs.Lists.{all, empty}
 use Rattle.terms.proofs.Lists.{all_first, all_rest, all_cons}
@@ -69,6 +69,28 @@ run_at t i h = rw (drop-cons t i 0 h) (go (digit (get_or t i 0)))
 pub run_past : (t : List ℕ) (i : ℕ) → length t ≤ i → false ≡ not (empty (run (drop i t)))
 unfolding run
 run_past t i h = rw (drop_of_length-le t h)
+
+-- ---- counting the digits
+
+module _ (t : List ℕ) (i : ℕ) (e : run t ≡ take i t ++ run (drop i t)) where
+  -- the text ends
+  pub run-end : length t ≤ i → i ≤ length t → t ≡ run t
+  unfolding run
+  run-end h l =
+      let end : i ≡ length t = omega arith in
+      sym (e ∙ rw (drop_of_length-le t h, end, take-length t) (append-nil t))
+
+  -- another octet
+  pub run-other : i < length t → digit (get_or t i 0) ≡ false → take i t ≡ run t
+  unfolding run
+  run-other h n = sym (e ∙ rw (drop-cons t i 0 h, n) (append-nil (take i t)))
+
+  -- one digit more
+  pub run-more : i < length t → digit (get_or t i 0) ≡ true → run t ≡ take (i + 1) t ++ run (drop (i + 1) t)
+  unfolding run
+  run-more h d =
+      e ∙ rw (drop-cons t i 0 h, d, add-one i, take-suc t i 0 h)
+      (sym (append_assoc (take i t) (get_or t i 0 ∷ []) (run (drop (suc i) t))))
 
 -- ---- zeros in front
 

@@ -1,17 +1,17 @@
 // Numbers as texts write them, and how they are ordered (RFC 4790, section 9.1, i;ascii-numeric).
 //
-// No number is computed, so that texts of any length are compared, each in one pass over its digits.
+// No number is computed, so that texts of any length are compared.
 
 #![tactic(auto)]
 
-ghost use Rattle.std.specs.Prelude.{◌≡◌, not, drop};
-ghost use Prim.Native.Nat.{compare};
+ghost use Rattle.std.specs.Prelude.{◌≡◌, not};
 ghost use Rattle.terms.specs.Lists.{empty};
-ghost use Rattle.octets.specs.Order.{and_then, compared_order};
+ghost use Rattle.octets.specs.Order.{compared_order};
 ghost use Rattle.numeric.specs.Numbers.{digit, run, magnitude_of, order_of_magnitudes};
 ghost use Rattle.numeric.specs.Runs.{leading_zeros, shorter_first};
 
-use octets::Comparison;
+use octets::compare_octets;
+use std::cmp::Ordering;
 
 // The lowest and the highest digit: "US-ASCII digits (0x30 to 0x39) represent digits of the numbers."
 const ZERO: u8 = 0x30;
@@ -19,96 +19,63 @@ const ZERO: u8 = 0x30;
 const NINE: u8 = 0x39;
 
 // The order of the numbers that two texts write. A text that starts with no digit is infinity, above every number.
-pub fn compare_numbers(first: &[u8], second: &[u8]) -> Comparison
+pub fn compare_numbers(first: &[u8], second: &[u8]) -> Ordering
     ensures { compared_order result ≡ order_of_magnitudes (magnitude_of first.now) (magnitude_of second.now) }
 {
-    if !digit_at(second, 0) {
-        if digit_at(first, 0) {
-            return Comparison::Less;
-        }
-        return Comparison::Equal;
+    match (starts_with_digit(first), starts_with_digit(second)) {
+        (true, true) => compare_runs(&first[zeros(first)..], &second[zeros(second)..]),
+        (true, false) => Ordering::Less,
+        (false, true) => Ordering::Greater,
+        (false, false) => Ordering::Equal,
     }
-    if !digit_at(first, 0) {
-        return Comparison::Greater;
-    }
-    let a = zeros(first);
-    let b = zeros(second);
-    compare_runs(&first[a..], &second[b..])
 }
 
 // The order of the runs of digits that two texts begin with: the longer is greater, else the first difference decides.
-fn compare_runs(first: &[u8], second: &[u8]) -> Comparison
+fn compare_runs(first: &[u8], second: &[u8]) -> Ordering
     ensures { compared_order result ≡ shorter_first (run first.now) (run second.now) }
 {
-    let mut difference = Comparison::Equal;
-    let mut i = 0;
-    while digit_at(first, i) {
-        if !digit_at(second, i) {
-            return Comparison::Greater;
+    let a = run_of(first);
+    let b = run_of(second);
+    a.len().cmp(&b.len()).then_with(|| compare_octets(a, b))
+}
+
+// The run of digits that a text begins with.
+fn run_of(text: &[u8]) -> &[u8]
+    ensures { result.now ≡ run text.now }
+{
+    for i in 0..text.len() {
+        if !is_digit(text[i]) {
+            return &text[..i];
         }
-        difference = first_difference(difference, first[i], second[i]);
-        i += 1;
     }
-    if digit_at(second, i) {
-        return Comparison::Less;
-    }
-    difference
+    text
 }
 
 // How many zeros a text begins with.
 fn zeros(text: &[u8]) -> usize
     ensures { result ≡ leading_zeros text.now }
 {
-    let mut i = 0;
-    while i < text.len() {
+    for i in 0..text.len() {
         if text[i] != ZERO {
             return i;
         }
-        i += 1;
     }
-    i
+    text.len()
 }
 
-// Whether a text has a digit at a place, which may be past its end.
-fn digit_at(text: &[u8], i: usize) -> bool
-    ensures { result ≡ not (empty (run (drop i text.now))) }
+// Whether a text starts with a digit.
+fn starts_with_digit(text: &[u8]) -> bool
+    ensures { result ≡ not (empty (run text.now)) }
 {
-    if i < text.len() {
-        return is_digit(text[i]);
+    match text {
+        [octet, ..] => is_digit(*octet),
+        [] => false,
     }
-    false
 }
 
 // Whether an octet is a digit.
 fn is_digit(octet: u8) -> bool
     ensures { result ≡ digit octet }
 {
-    if octet < ZERO {
-        return false;
-    }
-    octet <= NINE
-}
-
-// The difference so far, and where there is none that of two digits.
-fn first_difference(so_far: Comparison, x: u8, y: u8) -> Comparison
-    ensures { compared_order result ≡ and_then (compared_order so_far) (compare x y) }
-{
-    match so_far {
-        Comparison::Less => Comparison::Less,
-        Comparison::Equal => compare_digits(x, y),
-        Comparison::Greater => Comparison::Greater,
-    }
-}
-
-// The order of two digits.
-fn compare_digits(x: u8, y: u8) -> Comparison
-    ensures { compared_order result ≡ compare x y }
-{
-    if x < y {
-        return Comparison::Less;
-    }
-    if y < x {
-        return Comparison::Greater;
-    }
-    Comparison::Equal
+    (ZERO..=NINE).contains(&octet)
 }

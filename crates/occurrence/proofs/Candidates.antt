@@ -6,6 +6,10 @@ use native.Mathlib.Omega.{arith}
 use mathlib.Core.Path.{◌≡◌}
 use mathlib.Core.List.{List}
 use lib.ListN.{length, set, length-set}
+use Rattle.std.proofs.lemmas.List.{map-set}
+use Rattle.occurrence.specs.declared.rows.Row.{Row}
+use Rattle.occurrence.specs.declared.rows.Rows as table
+use Rattle.occurrence.specs.Promises.{periods, reaches}
 use Rattle.occurrence.specs.Matches.{Matched, Extended}
 use Rattle.occurrence.specs.Rows.{rows_most, Shifted, Rows}
 use Rattle.occurrence.proofs.Matching.{matched-none}
@@ -79,10 +83,22 @@ module _ {x P R : List ℕ} {n r j i : ℕ} (t : Table x P R n r j) (e : Extende
         last = new;
       }
 
--- the same table by other names
-pub table_same : {x P P' R R' : List ℕ} {n n' r r' b : ℕ} → P' ≡ P → R' ≡ R → n' ≡ n → r' ≡ r
-    → Table x P R n r b → Table x P' R' n' r' b
-table_same a b c d t = rw (a, b, c, d) t
+-- a row is noted in a needle's rows
+pub periods-set : (t : table.Rows) (row : Row) → periods (record { rows = set t.rows t.count row; count = t.count + 1 })
+    ≡ set (periods t) t.count row.period
+periods-set t row = map-set (λ (r : Row). r.period) t.rows t.count row
+
+pub reaches-set : (t : table.Rows) (row : Row) → reaches (record { rows = set t.rows t.count row; count = t.count + 1 })
+    ≡ set (reaches t) t.count row.reach
+reaches-set t row = map-set (λ (r : Row). r.reach) t.rows t.count row
+
+-- the table that a needle's rows are
+abbrev pub TableOf : List ℕ → table.Rows → ℕ → ℕ → Type 0
+TableOf x t r b = Table x (periods t) (reaches t) t.count r b
+
+-- the same by another name
+pub table_same : {x : List ℕ} {t t' : table.Rows} {r r' b : ℕ} → t' ≡ t → r' ≡ r → TableOf x t r b → TableOf x t' r' b
+table_same a b t = rw (a, b) t
 
 -- ---- on to the next
 

@@ -71,8 +71,8 @@ rows_on {x} {P} {R} {n} {j} {i} {s} t e pos within shift = record {
     whole = matched→period e.matched
 
     -- no front of i octets has a period below the shift
-    none : (v : ℕ) → 0 < v → v < s → v < j + 1 → Period x i v → ⊥
-    none v a b c p =
+    None : (v : ℕ) → 0 < v → v < s → v < j + 1 → Period x i v → ⊥
+    None v a b c p =
         t.covered i v a c (omega (arith, shift.within)) (omega (arith, e.within))
         (λ k q r. omega (arith, shift.least k q r)) p
 
@@ -82,7 +82,7 @@ rows_on {x} {P} {R} {n} {j} {i} {s} t e pos within shift = record {
       where
         small-go : Dec (v ≤ j) → v ≤ j
         small-go (yes h) = h
-        small-go (no h) = absurd (none j pos (omega arith) (omega arith) (period-less whole (omega arith)))
+        small-go (no h) = absurd (None j pos (omega arith) (omega arith) (period-less whole (omega arith)))
 
     skipped : (l v : ℕ) → 0 < v → v < s → 3 * (j + v) ≤ l → l ≤ length x → Over P R n l (j + v)
         → Period x l (j + v) → Dec (l < j + i) → ⊥
@@ -90,7 +90,7 @@ rows_on {x} {P} {R} {n} {j} {i} {s} t e pos within shift = record {
         t.covered (j + i) j pos (omega arith) (omega arith) (omega (arith, e.within))
         (λ k q r. omega (arith, o k q (omega arith))) whole
     skipped l v a b c d o p (no h) =
-        none v a b (omega (arith, small v b))
+        None v a b (omega (arith, small v b))
         (matched-overlap {l = l - (j + v)} v e.matched (record { same = λ k g. p.same k (omega arith) }) (omega arith))
 
     go : (l u : ℕ) → 0 < u → u < j + s → 3 * u ≤ l → l ≤ length x → Over P R n l u → Period x l u → Dec (u < j + 1) → ⊥

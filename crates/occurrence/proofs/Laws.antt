@@ -5,7 +5,7 @@ use native.Mathlib.Omega.{arith}
 use native.Mathlib.Decide.{dec_le}
 use mathlib.Core.Path.{◌≡◌, refl, ap}
 use mathlib.Core.Bool.{Bool, true, false}
-use mathlib.Core.Option.{none, some}
+use Rattle.std.specs.Prelude.{None, Some}
 use mathlib.Core.List.{List}
 use lib.ListN.{length, take, drop, length-take, length-drop, drop_of_length-le}
 use Rattle.terms.proofs.Lowest.{Lowest, lowest-some, lowest-none, lowest-is, lowest-nowhere}
@@ -36,7 +36,7 @@ stands-past needle hay k h s = rw (drop_of_length-le hay {i = length hay} (omega
 -- ---- what the answer says
 
 -- a place is answered: the needle stands there, and nowhere lower
-pub occurrence-some : (needle hay : List ℕ) (i : ℕ) → occurrence needle hay ≡ some i
+pub occurrence-some : (needle hay : List ℕ) (i : ℕ) → occurrence needle hay ≡ Some i
     → (take (length needle) (drop i hay) ≡ needle) × ((k : ℕ) → k < i → (take (length needle) (drop k hay) ≡ needle) → ⊥)
 unfolding occurrence
 occurrence-some needle hay i e =
@@ -44,14 +44,14 @@ occurrence-some needle hay i e =
     (begins-true needle (drop i hay) found.holds, λ k h s. false→not needle hay k (found.first k h) s)
 
 -- a place is answered: from there on the hay has room for the needle
-pub occurrence-within : (needle hay : List ℕ) (i : ℕ) → occurrence needle hay ≡ some i → i + length needle ≤ length hay
+pub occurrence-within : (needle hay : List ℕ) (i : ℕ) → occurrence needle hay ≡ Some i → i + length needle ≤ length hay
 unfolding occurrence
 occurrence-within needle hay i e =
     let found : Lowest (occurs_at needle hay) (suc (length hay)) i = lowest-some (occurs_at needle hay) (suc (length hay)) i e in
     omega (arith, found.below, simp (length-take, length-drop) at (ap length (begins-true needle (drop i hay) found.holds)))
 
 -- nothing is answered: the needle stands nowhere
-pub occurrence-none : (needle hay : List ℕ) → occurrence needle hay ≡ none → (k : ℕ)
+pub occurrence-none : (needle hay : List ℕ) → occurrence needle hay ≡ None → (k : ℕ)
     → (take (length needle) (drop k hay) ≡ needle) → ⊥
 unfolding occurrence
 occurrence-none needle hay e k s = go (dec_le k (length hay))
@@ -67,7 +67,7 @@ occurrence-none needle hay e k s = go (dec_le k (length hay))
 
 -- the lowest place from which the needle stands is answered
 pub occurrence-is : (needle hay : List ℕ) (i : ℕ) → take (length needle) (drop i hay) ≡ needle
-    → ((k : ℕ) → k < i → (take (length needle) (drop k hay) ≡ needle) → ⊥) → occurrence needle hay ≡ some i
+    → ((k : ℕ) → k < i → (take (length needle) (drop k hay) ≡ needle) → ⊥) → occurrence needle hay ≡ Some i
 unfolding occurrence
 occurrence-is needle hay i s lower =
     lowest-is (occurs_at needle hay) (suc (length hay)) i (go (dec_le i (length hay))) (begins-take needle (drop i hay) s)
@@ -79,7 +79,7 @@ occurrence-is needle hay i s lower =
 
 -- nothing is answered where the needle stands nowhere
 pub occurrence-nowhere : (needle hay : List ℕ) → ((k : ℕ) → (take (length needle) (drop k hay) ≡ needle) → ⊥)
-    → occurrence needle hay ≡ none
+    → occurrence needle hay ≡ None
 unfolding occurrence
 occurrence-nowhere needle hay nowhere =
     lowest-nowhere (occurs_at needle hay) (suc (length hay)) (λ k h. not→false needle hay k (nowhere k))

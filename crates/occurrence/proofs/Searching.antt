@@ -4,7 +4,7 @@ use Prim.Native.Nat.{ℕ, suc, ◌+◌, ◌-◌, ◌≤◌, ◌<◌}
 use native.Mathlib.Omega.{arith}
 use native.Mathlib.Decide.{dec_lt, ℕ_discrete}
 use mathlib.Core.Path.{◌≡◌}
-use mathlib.Core.Option.{none, some}
+use Rattle.std.specs.Prelude.{None, Some}
 use mathlib.Core.List.{List}
 use lib.ListN.{length, take, drop}
 use Rattle.occurrence.specs.Matches.{Matched, Extended, Unmatched, Skipped}
@@ -85,12 +85,12 @@ reached-kept u m room few e =
 
 -- the first place at which the needle matches
 pub occurrence-matched : {x y : List ℕ} {j : ℕ} → Unmatched x y j → Matched x y j (length x) → j + length x ≤ length y
-    → occurrence x y ≡ some j
+    → occurrence x y ≡ Some j
 occurrence-matched {x} {y} {j} u m room =
     occurrence-is x y j (matched→stands x y j room m) (λ k h s. u.fails k h (stands→matched x y k s))
 
 -- the needle matches at no place that has room for it
-pub occurrence-unmatched : {x y : List ℕ} {j : ℕ} → Unmatched x y j → length y < j + length x → occurrence x y ≡ none
+pub occurrence-unmatched : {x y : List ℕ} {j : ℕ} → Unmatched x y j → length y < j + length x → occurrence x y ≡ None
 occurrence-unmatched {x} {y} {j} u full = occurrence-nowhere x y (λ k s. go k s (dec_lt k j) (dec_lt 0 (length x)))
   where
     go : (k : ℕ) → take (length x) (drop k y) ≡ x → Dec (k < j) → Dec (0 < length x) → ⊥

@@ -5,8 +5,30 @@ use native.Mathlib.Omega.{arith}
 use native.Mathlib.Decide.{dec_lt, ℕ_discrete}
 use mathlib.Core.Path.{◌≡◌, refl}
 use mathlib.Core.List.{List}
-use lib.ListN.{get_or}
+use lib.ListN.{get_or, get_or-map, length, length-take, take}
+use lib.Seq.{get_or-take}
+use Rattle.occurrence.specs.declared.rows.Row.{Row}
+use Rattle.occurrence.specs.declared.rows.Rows.{Rows}
+use Rattle.occurrence.specs.Promises.{periods, reaches}
 use Rattle.occurrence.specs.Rows.{Ordered, Shifted}
+
+-- a row that counts is in the lists of periods and of reaches
+pub record Counted (t : Rows) (k : ℕ) (row : Row) : Type 0 where
+  pub below : k < t.count
+  pub period : get_or (periods t) k 0 ≡ row.period
+  pub reach : get_or (reaches t) k 0 ≡ row.reach
+
+pub counted : (t : Rows) (k : ℕ) → k < length (take t.count t.rows)
+    → Counted t k (get_or (take t.count t.rows) k (record { period = 0; reach = 0 }))
+counted t k h =
+    let below : k < t.count = omega (arith, length-take t.count t.rows) in
+    record {
+      below = below;
+      period = rw (get_or-take t.count t.rows k (record { period = 0; reach = 0 }) below)
+          (get_or-map (λ (r : Row). r.period) t.rows k (record { period = 0; reach = 0 }));
+      reach = rw (get_or-take t.count t.rows k (record { period = 0; reach = 0 }) below)
+          (get_or-map (λ (r : Row). r.reach) t.rows k (record { period = 0; reach = 0 }));
+    }
 
 -- no row before k reaches i
 pub record Passed (reaches : List ℕ) (i k : ℕ) : Type 0 where

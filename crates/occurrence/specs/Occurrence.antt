@@ -1,7 +1,7 @@
 -- The first occurrence of one list of octets in another: "The answer gives start and end of the lowest occurrence".
 -- Assumes nothing.
 use Rattle.std.specs.Prelude.{ℕ, suc, Bool, List, length, drop}
-use Rattle.std.proofs.Math.Option.{Option}
+use Rattle.std.specs.Prelude.{Option}
 use Rattle.terms.specs.Lists.{begins, lowest}
 
 -- the needle stands in the hay from place i on: "its key occurs contiguously"

@@ -19,8 +19,7 @@ pub fn skip(needle: &[u8], hay: &[u8], from: Place) -> Place
     requires { (0 < length needle.now) × (from.at + length needle.now ≤ length hay.now) }
     ensures { Skipped needle.now hay.now from.at result.at }
 {
-    let at = from.at;
-    let looked = from.looked;
+    let Place { at, looked } = from;
     if looked <= at {
         let next = skip_blocks(needle, hay, at);
         let end = next + BLOCK;
@@ -41,13 +40,10 @@ fn skip_blocks(needle: &[u8], hay: &[u8], j: usize) -> usize
     ensures { Skipped needle.now hay.now j result }
 {
     let last = hay.len() - needle.len();
+    // A step of a block, and the place where it ends is the answer, so not a `for`.
     let mut at = j;
-    while BLOCK <= last - at {
-        if is_clear(needle, hay, at) {
-            at += BLOCK;
-        } else {
-            return at;
-        }
+    while BLOCK <= last - at && is_clear(needle, hay, at) {
+        at += BLOCK;
     }
     at
 }
@@ -62,12 +58,10 @@ fn is_clear(needle: &[u8], hay: &[u8], j: usize) -> bool
     let first = needle[0];
     let middle = needle[half];
     let last = needle[far];
-    let mut least = 255u8;
+    let mut least = u8::MAX;
     for k in 0..BLOCK {
         let d = (hay[j + k] ^ first) | (hay[j + half + k] ^ middle) | (hay[j + far + k] ^ last);
-        if d < least {
-            least = d;
-        }
+        least = least.min(d);
     }
     0 < least
 }
@@ -82,7 +76,8 @@ fn skip_places(needle: &[u8], hay: &[u8], j: usize, end: usize) -> usize
     let first = needle[0];
     let middle = needle[half];
     let last = needle[far];
-    let stop = lesser(end, hay.len() - needle.len());
+    let stop = end.min(hay.len() - needle.len());
+    // Not a `for`: where most places are kept, that takes half as long again (`make bench`, "that letter second").
     let mut at = j;
     while at < stop {
         let d = (hay[at] ^ first) | (hay[at + half] ^ middle) | (hay[at + far] ^ last);
@@ -92,11 +87,4 @@ fn skip_places(needle: &[u8], hay: &[u8], j: usize, end: usize) -> usize
         at += 1;
     }
     at
-}
-
-// The lesser of two numbers.
-fn lesser(a: usize, b: usize) -> usize
-    ensures { (result ≤ a) × (result ≤ b) }
-{
-    if a < b { a } else { b }
 }

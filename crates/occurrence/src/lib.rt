@@ -16,21 +16,20 @@ ghost use Rattle.std.specs.Prelude.{◌≡◌};
 ghost use Rattle.occurrence.specs.Occurrence.{occurrence};
 ghost use Rattle.occurrence.specs.Promises.{place_found};
 
+use rows::{ROWS_MOST, Row, Rows};
 use terms::KeyPosition;
 
-// Where the needle stands, if it stands anywhere.
-#[derive(Clone, Copy)]
-pub enum Occurrence {
-    At(KeyPosition),
-    Nowhere,
-}
-
-// The lowest place of the hay from which the needle stands.
-pub fn find(needle: &[u8], hay: &[u8]) -> Occurrence
+// The lowest place of the hay from which the needle stands, if it stands anywhere.
+pub fn find(needle: &[u8], hay: &[u8]) -> Option<KeyPosition>
     ensures { place_found result ≡ occurrence needle.now hay.now }
 {
-    let mut periods = [0usize; rows::ROWS_MOST];
-    let mut reaches = [0usize; rows::ROWS_MOST];
-    let count = rows::note(needle, &mut periods, &mut reaches);
-    places::search(needle, hay, &periods, &reaches, count)
+    let mut rows = Rows {
+        rows: [Row {
+            period: 0,
+            reach: 0,
+        }; ROWS_MOST],
+        count: 0,
+    };
+    rows.note(needle);
+    places::search(needle, hay, &rows)
 }

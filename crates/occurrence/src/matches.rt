@@ -7,12 +7,10 @@ pub fn extend(x: &[u8], y: &[u8], j: usize, i: usize, most: usize) -> usize
     requires { (i ≤ most) × (most ≤ length x.now) × (j + most ≤ length y.now) × Matched x.now y.now j i }
     ensures { Extended x.now y.now j most result }
 {
-    let mut k = i;
-    while k < most {
+    for k in i..most {
         if x[k] != y[j + k] {
             return k;
         }
-        k += 1;
     }
-    k
+    most
 }

@@ -4,10 +4,16 @@ use mathlib.Core.Path.{◌≡◌, refl, sym, ap, ◌∙◌}
 use Prim.Native.Nat.{ℕ, zero, suc, ◌+◌, ◌*◌, ◌<◌, ◌≤◌, compare, Ordering}
 use native.Mathlib.Omega.{arith}
 use mathlib.Core.List.{List}
-use lib.ListN.{length, drop, get_or}
+use lib.ListN.{length, take, drop, get_or}
 use lib.Seq.{drop-cons}
 use Rattle.octets.specs.Numbers.{number_at, ReadsNumber}
-use Rattle.octets.specs.Order.{and_then, order_of}
+use Rattle.std.specs.declared.cmp.Ordering as std
+use Rattle.std.specs.declared.cmp.Ordering.TheVariants.{Less, Equal, Greater}
+use Rattle.std.specs.Ordering.{MatchOrdering, nat_cmp}
+use Rattle.std.specs.Int.{w32, w64, from_be_bytes}
+use Rattle.std.proofs.lemmas.Cmp.{ranked}
+use Rattle.std.proofs.lemmas.List.{get_or-take, get_or-drop}
+use Rattle.octets.specs.Order.{and_then, order_of, compared_order}
 use Rattle.octets.proofs.Order.{compare_refl, compare-equal, compare-below, compare-less, compare-flip}
 use Rattle.octets.proofs.Orders.{flip}
 
@@ -45,6 +51,21 @@ then-assoc Ordering.lt p q = refl
 then-assoc Ordering.eq p q = refl
 then-assoc Ordering.gt p q = refl
 
+-- std's comparison of two numbers
+pub cmp_compare : (x y : ℕ) → compared_order (nat_cmp x y) ≡ compare x y
+cmp_compare x y = go (nat_cmp x y) (ranked x y (nat_cmp x y) refl)
+  where
+    go : (o : std.Ordering) → MatchOrdering o (x < y) (x ≡ y) (y < x) → compared_order o ≡ compare x y
+    go Less h = sym (compare-below x y h)
+    go Equal h = rw h (sym (compare_refl y))
+    go Greater h = sym (compare-above x y h)
+
+-- what tells a difference decides
+decided : (o : std.Ordering) (p : Ordering) → (o ≡ Equal → ⊥) → and_then (compared_order o) p ≡ compared_order o
+decided Less p d = refl
+decided Equal p d = absurd (d refl)
+decided Greater p d = refl
+
 -- ---- lists
 
 -- from two places on two lists have the same order
@@ -79,42 +100,55 @@ module _ (a b : List ℕ) (octets-a : (i : ℕ) → get_or a i 0 < 256) (octets-
 
 -- ---- reading
 
--- four octets one by one
-pub reads-four : (xs : List ℕ) (at : ℕ) → ((i : ℕ) → get_or xs i 0 < 256)
-    → ReadsNumber 4 xs at
-    (((get_or xs at 0 * 256 + get_or xs (at + 1) 0) * 256 + get_or xs (at + 2) 0) * 256 + get_or xs (at + 3) 0)
-unfolding number_at
-reads-four xs at octets =
-    let one : at + 1 ≡ suc at = omega arith in
-    let two : at + 2 ≡ suc (suc at) = omega arith in
-    let three : at + 3 ≡ suc (suc (suc at)) = omega arith in
-    record { number = rw (one, two, three) (omega arith); octets = octets }
+-- a list begins with so many octets, read as one number, and a rest follows
+pub record Begins (k : ℕ) (xs rest : List ℕ) (x : ℕ) : Type 0 where
+  pub reads : ReadsNumber k xs 0 x
+  pub then : rest ≡ drop k xs
+  pub within : k ≤ length xs
 
--- four and the four that follow
-pub reads-eight : (xs : List ℕ) (at x y r : ℕ) → ReadsNumber 4 xs at x → ReadsNumber 4 xs (at + 4) y
-    → r ≡ x * 4294967296 + y
-    → ReadsNumber 8 xs at r
-unfolding number_at
-reads-eight xs at x y r p q e =
-    let four : at + 4 ≡ suc (suc (suc (suc at))) = omega arith in
-    record { number = omega (arith, p.number, rw four at q.number); octets = p.octets }
+-- what std splits off a list
+abbrev Split : ℕ → List ℕ → List ℕ → List ℕ → Type 0
+Split k xs block rest = (block ≡ take k xs) × (rest ≡ drop k xs) × (length rest + k ≡ length xs)
 
--- Two numbers that were read at the same place.
-module _ (a b : List ℕ) (k i x y : ℕ) (p : ReadsNumber k a i x) (q : ReadsNumber k b i y)
-    (h : i + k ≤ length a) (l : i + k ≤ length b) where
+-- what is left of octets is octets
+pub octets-left : (k : ℕ) (xs : List ℕ) {block rest : List ℕ} → ((i : ℕ) → get_or xs i 0 < 256) → Split k xs block rest
+    → (i : ℕ) → get_or rest i 0 < 256
+octets-left k xs octets (b, r, l) i = rw (r, get_or-drop k xs i 0) (octets (k + i))
+
+module _ {xs block rest : List ℕ} {x : ℕ} (octets : (i : ℕ) → get_or xs i 0 < 256) where
+  -- four octets
+  pub begins-four : Split 4 xs block rest → x ≡ from_be_bytes w32 block → Begins 4 xs rest x
+  unfolding number_at
+  begins-four (b, r, l) e = record {
+    reads = record { number = rw b at e ∙ omega (arith, get_or-take {A = ℕ}); octets = octets };
+    then = r;
+    within = omega arith;
+  }
+
+  -- eight
+  pub begins-eight : Split 8 xs block rest → x ≡ from_be_bytes w64 block → Begins 8 xs rest x
+  unfolding number_at
+  begins-eight (b, r, l) e = record {
+    reads = record { number = rw b at e ∙ omega (arith, get_or-take {A = ℕ}); octets = octets };
+    then = r;
+    within = omega arith;
+  }
+
+-- Two numbers that were read at the start of two lists, and how they compare.
+module _ {a b rest_a rest_b : List ℕ} {k x y : ℕ} (p : Begins k a rest_a x) (q : Begins k b rest_b y)
+    {o : std.Ordering} (compared : o ≡ nat_cmp x y) where
   -- the numbers decide, and then what follows
-  order-read : order_of (drop i a) (drop i b) ≡ and_then (compare x y) (order_of (drop (i + k) a) (drop (i + k) b))
-  order-read = rw (p.number, q.number) (order-numbers a b p.octets q.octets k 0 0 i h l)
+  order-read : order_of a b ≡ and_then (compared_order o) (order_of rest_a rest_b)
+  order-read =
+      let start : 0 + k ≡ k = omega arith in
+      rw (compared, cmp_compare x y, p.reads.number, q.reads.number, p.then, q.then)
+      (rw start at
+      (order-numbers a b p.reads.octets q.reads.octets k 0 0 0 (omega (arith, p.within)) (omega (arith, q.within))))
 
-  -- the first is lower
-  pub read_lower : x < y → order_of (drop i a) (drop i b) ≡ Ordering.lt
-  read_lower d = order-read ∙ rw (compare-below x y d)
+  -- the numbers differ
+  pub read_unequal : (o ≡ Equal → ⊥) → compared_order o ≡ order_of a b
+  read_unequal d = sym (order-read ∙ decided o (order_of rest_a rest_b) d)
 
-  -- the second is lower
-  pub read-higher : y < x → order_of (drop i a) (drop i b) ≡ Ordering.gt
-  read-higher d = order-read ∙ rw (compare-above x y d)
-
-  -- neither is: the order is that of what follows
-  pub read_same : y ≤ x → x ≤ y → SameFrom a b i (i + k)
-  read_same d e =
-      let same : x ≡ y = omega arith in order-read ∙ rw (same, compare_refl y)
+  -- they are the same: the order is that of what follows
+  pub read_same : o ≡ Equal → order_of a b ≡ order_of rest_a rest_b
+  read_same e = rw e at order-read

@@ -1,13 +1,16 @@
 -- The order of lists of octets is a total order: its ties are exactly the equal lists, it turns round with its arguments, and
 -- it is transitive. A proper prefix is less, and else the first octet that differs decides.
 -- Assumes nothing.
-use Prim.Native.Nat.{ℕ, zero, suc, ◌<◌, compare, Ordering}
+use Prim.Native.Nat.{ℕ, zero, suc, ◌+◌, ◌<◌, ◌≤◌, compare, min, Ordering}
 use native.Mathlib.Omega.{arith}
 use mathlib.Core.Path.{◌≡◌, refl, sym, ap, ◌∙◌}
 use mathlib.Core.Bool.{Bool, true, false}
 use mathlib.Core.Logic.{◌⊎◌, inl, inr}
 use mathlib.Core.List.{List, [], ◌∷◌, ◌++◌}
+use native.Mathlib.Numerals.{add-one}
 use lib.Dec.{compare_is_eq}
+use lib.ListN.{length, drop, get_or}
+use lib.Seq.{drop-cons}
 use Rattle.terms.specs.Lists.{same}
 use Rattle.terms.proofs.Same.{same_refl, same-exactly}
 use Rattle.octets.specs.Order.{and_then, order_of}
@@ -138,6 +141,40 @@ order_trans (x ∷ a) (y ∷ b) (z ∷ c) e f =
     (below-trans x y z (order_of a b) (order_of b c) (order_of a c) (order_trans a b c)
     (below x y (order_of a b) e)
     (below y z (order_of b c) f))
+
+-- one octet of each that is the same leaves the order to what follows
+pub order-tie : (a b : List ℕ) (i : ℕ) → i < length a → i < length b → get_or a i 0 ≡ get_or b i 0
+    → order_of (drop i a) (drop i b) ≡ order_of (drop (i + 1) a) (drop (i + 1) b)
+unfolding order_of
+order-tie a b i h l e =
+    rw (drop-cons a i 0 h, drop-cons b i 0 l, add-one i, e, compare_refl (get_or b i 0))
+
+-- octets that differ decide
+pub order-octet : (a b : List ℕ) (i : ℕ) → i < length a → i < length b → (get_or a i 0 ≡ get_or b i 0 → ⊥)
+    → order_of (drop i a) (drop i b) ≡ compare (get_or a i 0) (get_or b i 0)
+unfolding order_of
+order-octet a b i h l d =
+    rw (drop-cons a i 0 h, drop-cons b i 0 l) (go (compare (get_or a i 0) (get_or b i 0)) refl)
+  where
+    go : (o : Ordering) → compare (get_or a i 0) (get_or b i 0) ≡ o
+        → and_then o (order_of (drop (suc i) a) (drop (suc i) b)) ≡ o
+    go Ordering.lt e = refl
+    go Ordering.eq e = absurd (d (compare-equal (get_or a i 0) (get_or b i 0) e))
+    go Ordering.gt e = refl
+
+-- where one of two lists ends, the longer one is greater
+pub order-ends : (a b : List ℕ) (i : ℕ) → i ≤ length a → i ≤ length b → min (length a) (length b) ≤ i
+    → order_of (drop i a) (drop i b) ≡ compare (length a) (length b)
+unfolding order_of
+order-ends [] [] i h l m = let start : i ≡ 0 = omega arith in rw start (sym Prim.Native.Nat.compare.zero-zero)
+order-ends [] (y ∷ b) i h l m =
+    let start : i ≡ 0 = omega arith in rw start (sym (Prim.Native.Nat.compare.zero-suc (length b)))
+order-ends (x ∷ a) [] i h l m =
+    let start : i ≡ 0 = omega arith in rw start (sym (Prim.Native.Nat.compare.suc-zero (length a)))
+order-ends (x ∷ a) (y ∷ b) zero h l m = absurd (omega arith)
+order-ends (x ∷ a) (y ∷ b) (suc i) h l m =
+    order-ends a b i (omega arith) (omega arith) (omega arith)
+    ∙ sym (Prim.Native.Nat.compare.suc-suc (length a) (length b))
 
 -- a proper prefix is less
 pub order-prefix : (a b : List ℕ) (x : ℕ) → order_of a (a ++ (x ∷ b)) ≡ Ordering.lt

@@ -104,3 +104,16 @@ module _ (octets before : List ℕ) (i : ℕ) (after : List ℕ) (p : Puts (take
             rw (width, count, drop-drop n at after, take-before, drop-after, take-add at n octets)
             (sym (append_assoc (take at octets) block (drop (at + n) before)));
       }
+
+-- the last block of the octets, some of which may be written already
+pub puts-last : (octets before : List ℕ) (i : ℕ) (after : List ℕ) → Puts (take i octets) before i after
+    → length octets - 4 ≤ i
+    → i ≤ length octets
+    → 4 ≤ length octets
+    → Puts octets before (length octets)
+    (put_at (length octets - 4) (take 4 (drop (length octets - 4) octets)) after)
+puts-last octets before i after p starts ends four =
+    let n = length octets in
+    let end : n - 4 + 4 ≡ n = omega arith in
+    puts-all octets before n _
+    (rw end at (puts-block octets before i after p (n - 4) 4 starts (omega arith) (omega arith))) refl

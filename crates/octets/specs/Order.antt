@@ -3,8 +3,8 @@
 -- Assumes nothing.
 use Prim.Native.Nat.{ℕ, compare, Ordering}
 use Rattle.std.specs.Prelude.{List, [], ◌∷◌}
-use Rattle.octets.specs.declared.Comparison.{Comparison}
-use Rattle.octets.specs.declared.Comparison.TheVariants.{Less, Equal, Greater}
+use Rattle.std.specs.declared.cmp.Ordering as std
+use Rattle.std.specs.declared.cmp.Ordering.TheVariants.{Less, Equal, Greater}
 
 -- the first of two comparisons that tells a difference
 abbrev pub and_then : Ordering → Ordering → Ordering
@@ -20,7 +20,7 @@ order_of (a ∷ xs) [] = Ordering.gt
 order_of (a ∷ xs) (b ∷ ys) = and_then (compare a b) (order_of xs ys)
 
 -- the order that a comparison answers
-abbrev pub compared_order : Comparison → Ordering
+abbrev pub compared_order : std.Ordering → Ordering
 compared_order Less = Ordering.lt
 compared_order Equal = Ordering.eq
 compared_order Greater = Ordering.gt

@@ -1,15 +1,15 @@
 -- Both page slices filled page by page, `Filling es p page next after`.
 -- Assumes nothing.
-use mathlib.Core.Path.{◌≡◌, refl, sym, ap, ap₂, ◌∙◌}
+use mathlib.Core.Path.{◌≡◌, sym, ap, ap₂, ◌∙◌}
 use Prim.Native.Nat.{ℕ, suc, ◌+◌, ◌*◌, ◌≤◌, ◌<◌}
 use native.Mathlib.Omega.{arith}
 use mathlib.Core.List.{List}
-use lib.ListN.{length, get_or, take, set}
+use lib.ListN.{length, set}
 use lib.Seq.{take_all}
 use Rattle.terms.specs.Lists.{over}
 use Rattle.terms.specs.Refusals.{pages_most}
 use Rattle.terms.proofs.Copying.{Copying, copying-start, copying-more, copying-done}
-use Rattle.pages.specs.Pages.{page_size, presence_word, rank_of, up_to, Pages, pages, filled}
+use Rattle.pages.specs.Pages.{page_size, presence_word, rank_of, up_to, pages, filled}
 use Rattle.pages.specs.Promises.{Parted, PageRead}
 use Rattle.pages.specs.declared.Page.{Page}
 use Rattle.pages.proofs.Paging.{length-up_to, get_d-up_to}

@@ -8,7 +8,7 @@ use mathlib.Core.Bool.{Bool, true, false, true≢false}
 use mathlib.Core.Logic.{◌↔◌}
 use mathlib.Core.List.{List, [], ◌∷◌, ◌++◌}
 use lib.Count.{ones}
-use mathlib.Core.Option.{Option, none, some}
+use Rattle.std.specs.Prelude.{Option, None, Some}
 use lib.Dec.{eqb, ltb}
 use lib.ListN.{length, get_or, length-append, get_or-append}
 use lib.Seq.{get_or_at}
@@ -50,12 +50,12 @@ pub listed-exactly : (es : List ℕ) (c : ℕ) → (listed es c ≡ true) ↔ ((
 listed-exactly es c = (λ e. found (entry_of es c) refl e, λ h. there-is (entry_of es c) refl h)
   where
     found : (o : Option ℕ) → entry_of es c ≡ o → there o ≡ true → (i : ℕ) × (i < entry_count es) × (code_at es i ≡ c)
-    found none e f = absurd (true≢false (sym f))
-    found (some i) e f = let is = entry_of-some es c i e in (i, is.0, is.1)
+    found None e f = absurd (true≢false (sym f))
+    found (Some i) e f = let is = entry_of-some es c i e in (i, is.0, is.1)
 
     there-is : (o : Option ℕ) → entry_of es c ≡ o → ((i : ℕ) × (i < entry_count es) × (code_at es i ≡ c)) → there o ≡ true
-    there-is (some i) e h = refl
-    there-is none e h = absurd (entry_of-gone es c e h.0 h.1 h.2)
+    there-is (Some i) e h = refl
+    there-is None e h = absurd (entry_of-gone es c e h.0 h.1 h.2)
 
 -- a digit is 1 exactly when the test holds
 pub digit-exactly : (b : Bool) → (digit b ≡ 1) ↔ (b ≡ true)
@@ -89,12 +89,12 @@ paged-place es {p} up paged c h =
 
 -- where the bit is set it is the rank, and where not it is none
 pub paged_place-yes : (p : Pages) (c : ℕ) → eqb (get_or p.presence (c / page_size) 0 / 2 ^ (c % page_size) % 2) 1 ≡ true
-    → paged_place p c ≡ some (get_or p.ranks (c / page_size) 0 + ones (get_or p.presence (c / page_size) 0 % 2 ^ (c % page_size)))
+    → paged_place p c ≡ Some (get_or p.ranks (c / page_size) 0 + ones (get_or p.presence (c / page_size) 0 % 2 ^ (c % page_size)))
 unfolding paged_place
 paged_place-yes p c e = rw e refl
 
 pub paged_place-no : (p : Pages) (c : ℕ) → eqb (get_or p.presence (c / page_size) 0 / 2 ^ (c % page_size) % 2) 1 ≡ false
-    → paged_place p c ≡ none
+    → paged_place p c ≡ None
 unfolding paged_place
 paged_place-no p c e = rw e refl
 

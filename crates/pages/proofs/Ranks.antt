@@ -1,11 +1,11 @@
 -- The rank law: the entries below a code point are the first ones, and of ascending entries each stands where its rank says.
 -- Assumes nothing.
-use mathlib.Core.Path.{◌≡◌, refl, sym, ap, ap₂, ◌∙◌}
+use mathlib.Core.Path.{◌≡◌, refl, sym, ap, ◌∙◌}
 use Prim.Native.Nat.{ℕ, zero, suc, ◌+◌, ◌*◌, ◌≤◌, ◌<◌}
 use native.Mathlib.Omega.{arith}
 use native.Mathlib.Decide.{ℕ_discrete, dec_lt}
-use mathlib.Core.Bool.{Bool, true, false}
-use mathlib.Core.Option.{none, some}
+use mathlib.Core.Bool.{Bool}
+use Rattle.std.specs.Prelude.{None, Some}
 use mathlib.Core.List.{List}
 use lib.Dec.{ltb}
 use borrow.Author.Tests.{lt-ltb, le-ltb}
@@ -49,7 +49,7 @@ module _ (es : List ℕ) (up : Ascending es) where
       -- it is no entry's
       gone : ((k : ℕ) → i ≤ k → k < entry_count es → suc c ≤ code_at es k) → Stepped es c i
       gone later =
-          let e : entry_of es c ≡ none = entry_of-none es c (λ k l q. other k l q (dec_lt k i)) in
+          let e : entry_of es c ≡ None = entry_of-none es c (λ k l q. other k l q (dec_lt k i)) in
           record {
             place = rw e refl;
             parted = rw e (record {
@@ -66,7 +66,7 @@ module _ (es : List ℕ) (up : Ascending es) where
       -- it is entry i's
       found : i < entry_count es → code_at es i ≡ c → Stepped es c i
       found l q =
-          let e : entry_of es c ≡ some i = ap (entry_of es) (sym q) ∙ entry_of-entry es up i l in
+          let e : entry_of es c ≡ Some i = ap (entry_of es) (sym q) ∙ entry_of-entry es up i l in
           record {
             place = rw e refl;
             parted = rw e (record {

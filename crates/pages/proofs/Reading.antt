@@ -1,11 +1,11 @@
 -- A page read entry by entry, `Reading es page i word`: what holds at its start, after one entry more, and at its end.
 -- Assumes nothing.
-use mathlib.Core.Path.{◌≡◌, refl, sym, ap, ap₂, ◌∙◌}
+use mathlib.Core.Path.{◌≡◌, refl, sym, ap, ◌∙◌}
 use Prim.Native.Nat.{ℕ, zero, suc, ◌+◌, ◌*◌, ◌/◌, ◌%◌, ◌^◌, ◌≤◌, ◌<◌}
 use native.Mathlib.Omega.{arith}
 use native.Mathlib.Decide.{ℕ_discrete}
 use mathlib.Core.Bool.{Bool, true, false}
-use mathlib.Core.Option.{Option, none, some}
+use Rattle.std.specs.Prelude.{Option, None, Some}
 use mathlib.Core.List.{List}
 use lib.Dec.{eqb}
 use borrow.Author.Tests.{eq-eqb, ne_eqb}
@@ -17,7 +17,6 @@ use Rattle.table.specs.Promises.{Ascending}
 use Rattle.table.proofs.Form.{ascending-lt}
 use Rattle.pages.specs.Pages.{word_of, page_size, presence_word}
 use Rattle.pages.specs.Promises.{Parted, PageRead}
-use Rattle.pages.specs.declared.Page.{Page}
 use Rattle.pages.proofs.Masks.{one_shifted}
 use Rattle.pages.proofs.Words.{word_lt, word_same, word_none, word_more}
 
@@ -39,12 +38,12 @@ among_none es n c other =
 
 -- one more has the code point, or says nothing of it
 there-either : (o : Option ℕ) (n : ℕ) → there (or_else o (when true n)) ≡ true
-there-either none n = refl
-there-either (some i) n = refl
+there-either None n = refl
+there-either (Some i) n = refl
 
 there-neither : (o : Option ℕ) (n : ℕ) → there (or_else o (when false n)) ≡ there o
-there-neither none n = refl
-there-neither (some i) n = refl
+there-neither None n = refl
+there-neither (Some i) n = refl
 
 among_one : (es : List ℕ) (n c : ℕ) → code_at es n ≡ c → among es (suc n) c ≡ true
 unfolding lowest

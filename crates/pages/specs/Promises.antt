@@ -1,7 +1,7 @@
 -- What the functions that look an entry up ask for, and what reading one page comes to.
 -- Assumes nothing.
 use Rattle.std.specs.Prelude.{◌≡◌, ℕ, suc, ◌*◌, ◌≤◌, ◌<◌, List, length, get_or}
-use Rattle.std.proofs.Math.Option.{none}
+use Rattle.std.specs.Prelude.{None}
 use Rattle.terms.specs.Refusals.{pages_most}
 use Rattle.table.specs.Layout.{entry_count, code_at}
 use Rattle.table.specs.Table.{Table, form_refusal}
@@ -17,7 +17,7 @@ pub record Paged (es : List ℕ) (p : Pages) : Type 0 where
 
 -- a table has the form, and these are its pages: an entry can be found by them
 pub record Findable (t : Table) (p : Pages) : Type 0 where
-  pub form : form_refusal t ≡ none
+  pub form : form_refusal t ≡ None
   pub paged : Paged t.entries p
 
 -- the entries whose code point is below c are the first i

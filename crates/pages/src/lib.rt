@@ -11,11 +11,11 @@ ghost use Rattle.std.specs.Int.Count.{ones};
 ghost use Rattle.terms.specs.CodePoints.{scalar};
 ghost use Rattle.terms.specs.Refusals.{pages_most};
 ghost use Rattle.table.specs.Table.{table, entry_of, entry_parts};
-ghost use Rattle.table.specs.Promises.{place_found, Ascending};
+ghost use Rattle.table.specs.Promises.{Ascending};
 ghost use Rattle.pages.specs.Pages.{pages, page_size, filled};
 ghost use Rattle.pages.specs.Promises.{Findable, Parted, PageRead};
 
-use table::{Place, layout};
+use table::layout;
 use terms::CodePoint;
 
 // How many code points a page has.
@@ -37,13 +37,11 @@ pub fn fill_pages(entries: &[u32], presence: &mut [u64], ranks: &mut [u64])
         (pages presence.old ranks.old) }
 {
     let mut next = 0;
-    let mut page: usize = 0;
-    while page < terms::PAGES_MOST {
+    for page in 0..terms::PAGES_MOST {
         let read = read_page(entries, next, page);
         presence[page] = read.word;
         ranks[page] = next as u64;
         next = read.next;
-        page += 1;
     }
 }
 
@@ -54,18 +52,19 @@ pub fn find_entry(
     presence: &[u64],
     ranks: &[u64],
     c: CodePoint,
-) -> Place
+) -> Option<usize>
     requires findable { Findable (table entries.now pool.now) (pages presence.now ranks.now) }
     requires c_value { scalar c.0 ≡ true }
-    ensures { place_found result ≡ entry_of entries.now c.0 }
+    ensures { result ≡ entry_of entries.now c.0 }
 {
     let page = (c.0 / PAGE_SIZE) as usize;
     let bit = c.0 % PAGE_SIZE;
     let word = presence[page];
-    if !has_bit(word, bit) {
-        return Place::Nowhere;
+    if has_bit(word, bit) {
+        Some(ranks[page] as usize + ones_below(word, bit) as usize)
+    } else {
+        None
     }
-    Place::At(ranks[page] as usize + ones_below(word, bit) as usize)
 }
 
 // Whether a bit of a word is set.
@@ -77,11 +76,12 @@ fn has_bit(word: u64, bit: u32) -> bool
 }
 
 // How many bits of a word are set below one: the word masked below it, by the language's count of ones.
+#[tactic(auto, using(crate::proofs::Masks::mask_below))]
 fn ones_below(word: u64, bit: u32) -> u32
     requires { bit < page_size }
     ensures { result ≡ ones (word % 2 ^ bit) }
 {
-    u64::count_ones(word & ((1u64 << bit) - 1))
+    (word & ((1 << bit) - 1)).count_ones()
 }
 
 // The decomposition that the entry of a code point says, as a part of the pool; empty if it has none.
@@ -96,10 +96,10 @@ pub fn entry_parts<'a>(
     requires c_value { scalar c.0 ≡ true }
     ensures { result.now ≡ entry_parts (table entries.now pool.now) c.0 }
 {
-    if let Place::At(i) = find_entry(entries, pool, presence, ranks, c) {
-        return table::parts_at(entries, pool, i);
+    match find_entry(entries, pool, presence, ranks, c) {
+        Some(i) => table::parts_at(entries, pool, i),
+        None => &[],
     }
-    &pool[..0]
 }
 
 // Reads a page whose first entry, if it has one, is entry `from`.
@@ -110,15 +110,13 @@ fn read_page(entries: &[u32], from: usize, page: usize) -> Page
     ensures { PageRead entries.now page result }
 {
     let count = layout::entry_count(entries);
-    let mut word: u64 = 0;
-    let mut i = from;
-    while i < count {
+    let mut word = 0;
+    for i in from..count {
         let c = layout::code_at(entries, i);
         if (c.0 / PAGE_SIZE) as usize != page {
             return Page { word, next: i };
         }
-        word += 1u64 << (c.0 % PAGE_SIZE);
-        i += 1;
+        word += 1 << (c.0 % PAGE_SIZE);
     }
-    Page { word, next: i }
+    Page { word, next: count }
 }

@@ -6,7 +6,7 @@ use Prim.Native.Nat.{ℕ, ◌≤◌, ◌<◌}
 use native.Mathlib.Omega.{arith}
 use mathlib.Core.Bool.{Bool, true, false, not}
 use mathlib.Core.Logic.{◌↔◌}
-use mathlib.Core.Option.{Option, none, some}
+use Rattle.std.specs.Prelude.{Option, None, Some}
 use mathlib.Core.List.{List}
 use lib.Dec.{ltb}
 use lib.ListN.{length, get_or}
@@ -20,20 +20,20 @@ use Rattle.terms.proofs.Lowest.{lowest-some, lowest-none, lowest-nowhere}
 use Rattle.pairing.specs.Pairing.{pair_most, is_tab, tab_of, CutAtTab, pair_refusal}
 
 -- a line that 2 and 9 don't refuse has a tab
-tab-there : (line : List ℕ) → pair_refusal line ≡ none → there (tab_of line) ≡ true
+tab-there : (line : List ℕ) → pair_refusal line ≡ None → there (tab_of line) ≡ true
 tab-there line e =
     let long = check (ltb pair_most (length line)) 2 0 0 in
     let tabless = check (not (there (tab_of line))) 9 0 0 in
-    let passed = (or_else-neither tabless none (or_else-neither long (or_else tabless none) e).1).0 in
+    let passed = (or_else-neither tabless None (or_else-neither long (or_else tabless None) e).1).0 in
     not-false _ (when-none (not (there (tab_of line))) (refusal 9 0 0) passed)
 
 -- and is cut there
-pub pair-cut : (line : List ℕ) → pair_refusal line ≡ none → CutAtTab line
+pub pair-cut : (line : List ℕ) → pair_refusal line ≡ None → CutAtTab line
 pair-cut line e = go (tab_of line) refl (tab-there line e)
   where
     go : (o : Option ℕ) → tab_of line ≡ o → there o ≡ true → CutAtTab line
-    go none q h = absurd (let z : ◌≡◌ {A = ℕ} 0 1 = cc in omega arith)
-    go (some i) q h =
+    go None q h = absurd (let z : ◌≡◌ {A = ℕ} 0 1 = cc in omega arith)
+    go (Some i) q h =
         let found = lowest-some (is_tab line) (length line) i q in
         let octet : get_or line i 0 ≡ 0x09 = eqb-true (get_or line i 0) 0x09 found.holds in
         record {
@@ -47,7 +47,7 @@ pair-cut line e = go (tab_of line) refl (tab-there line e)
 
 -- 9 exactly when the line is not too long for 2 and no octet of it is a tab
 pub number-9 : (line : List ℕ)
-    → (pair_refusal line ≡ some (refusal 9 0 0)) ↔ ((length line ≤ 8193) × ((i : ℕ) → i < length line → get_or line i 0 ≡ 0x09 → ⊥))
+    → (pair_refusal line ≡ Some (refusal 9 0 0)) ↔ ((length line ≤ 8193) × ((i : ℕ) → i < length line → get_or line i 0 ≡ 0x09 → ⊥))
 number-9 line = (
   λ e. go (ltb pair_most (length line)) refl (tab_of line) refl e,
   λ h.
@@ -58,12 +58,12 @@ number-9 line = (
 )
   where
     go : (b : Bool) → ltb pair_most (length line) ≡ b → (o : Option ℕ) → tab_of line ≡ o
-        → or_else (check b 2 0 0) (or_else (check (not (there o)) 9 0 0) none) ≡ some (refusal 9 0 0)
+        → or_else (check b 2 0 0) (or_else (check (not (there o)) 9 0 0) None) ≡ Some (refusal 9 0 0)
         → (length line ≤ 8193) × ((i : ℕ) → i < length line → get_or line i 0 ≡ 0x09 → ⊥)
     go true p o q e =
         let same : refusal 2 0 0 ≡ refusal 9 0 0 = cc in absurd (omega (arith, ap (λ (r : Refusal). r.number) same))
-    go false p (some i) q e = let z : ◌≡◌ {A = ℕ} 0 1 = cc in absurd (omega arith)
-    go false p none q e = (
+    go false p (Some i) q e = let z : ◌≡◌ {A = ℕ} 0 1 = cc in absurd (omega arith)
+    go false p None q e = (
       ltb-false pair_most (length line) p,
       λ i l. eqb-false (get_or line i 0) 0x09 (lowest-none (is_tab line) (length line) q i l),
     )

@@ -2,3 +2,4 @@ pub mod Cases
 pub mod CutAtTab
 pub mod Judging
 pub mod Numbers
+pub mod Tabs

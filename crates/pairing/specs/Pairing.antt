@@ -2,7 +2,7 @@
 -- leaves in the two key buffers.
 -- Assumes nothing.
 use Rattle.std.specs.Prelude.{◌≡◌, ℕ, suc, ◌<◌, Bool, not, List, [], ◌∷◌, ◌++◌, ltb, eqb, length, take, drop, get_or}
-use Rattle.std.proofs.Math.Option.{Option, none, some}
+use Rattle.std.specs.Prelude.{Option, None, Some}
 use Rattle.terms.specs.Lists.{there, lowest}
 use Rattle.terms.specs.Refusals.{check, first, Outcome, refused}
 use Rattle.terms.specs.declared.Collation.TheVariants.{UnicodeCasemap}
@@ -29,19 +29,19 @@ tab_of line = lowest (is_tab line) (length line)
 -- a line is cut at its first tab: what stands before it is the first text, and what stands after it the second
 pub record CutAtTab (line : List ℕ) : Type 0 where
   pub at : ℕ
-  pub tab : tab_of line ≡ some at
+  pub tab : tab_of line ≡ Some at
   pub within : at < length line
   pub whole : line ≡ take at line ++ (0x09 ∷ drop (suc at) line)
 
 -- what stands before a place of a line, and what stands after it, compared under i;unicode-casemap
 abbrev pub call_around : List ℕ → Table → Pages → List ℕ → List ℕ → ℕ → Call
 call_around line t p firstBuffer secondBuffer at =
-    call (some UnicodeCasemap) t p (lent (take at line) firstBuffer ∷ lent (drop (suc at) line) secondBuffer ∷ [])
+    call (Some UnicodeCasemap) t p (lent (take at line) firstBuffer ∷ lent (drop (suc at) line) secondBuffer ∷ [])
 
 -- the call that a line with a tab at a place is; without a tab it is none
 abbrev pub call_at : List ℕ → Table → Pages → List ℕ → List ℕ → Option ℕ → Option Call
-call_at line t p firstBuffer secondBuffer none = none
-call_at line t p firstBuffer secondBuffer (some at) = some (call_around line t p firstBuffer secondBuffer at)
+call_at line t p firstBuffer secondBuffer None = None
+call_at line t p firstBuffer secondBuffer (Some at) = Some (call_around line t p firstBuffer secondBuffer at)
 
 -- ---- the answer
 
@@ -52,15 +52,15 @@ pair_refusal line =
 
 -- the answer of a line: its refusal, and else the order of its texts
 abbrev pub judged : Option Refusal → Option Call → Option Outcome
-judged (some r) c = some (refused r)
-judged none none = none
-judged none (some c) = answer_of (call_refusal c) (order_values c)
+judged (Some r) c = Some (refused r)
+judged None None = None
+judged None (Some c) = answer_of (call_refusal c) (order_values c)
 
 -- the two key buffers after a line: as the comparison leaves them, and as before if there is none
 abbrev pub buffers_left : Option Refusal → Option Call → List (List ℕ) → List (List ℕ)
-buffers_left (some r) c before = before
-buffers_left none none before = before
-buffers_left none (some c) before = buffers_after (call_refusal c) c
+buffers_left (Some r) c before = before
+buffers_left None None before = before
+buffers_left None (Some c) before = buffers_after (call_refusal c) c
 
 -- the answer for a line
 unfoldable pub pair_answer : List ℕ → Table → Pages → List ℕ → List ℕ → Option Outcome

@@ -3,8 +3,10 @@
 -- Assumes nothing.
 use Rattle.std.specs.Prelude.{◌≡◌, refl, ℕ, zero, suc, ◌+◌, ◌/◌, ◌%◌, ◌≤◌, ◌<◌, Bool, true, false, cond, List, [], ◌∷◌, ◌++◌, ltb}
 use Rattle.std.proofs.Common.{arith, ltb-false, lt-ltb, le-ltb}
-use Rattle.compare.specs.declared.Ordered.{Ordered}
-use Rattle.compare.specs.declared.Ordered.TheVariants.{Less, Equal, Greater, Refused}
+use Rattle.std.specs.Prelude.{Result, Ok, Err}
+use Rattle.std.specs.declared.cmp.Ordering.{Ordering}
+use Rattle.std.specs.declared.cmp.Ordering.TheVariants.{Less, Equal, Greater}
+use Rattle.terms.specs.declared.Refusal.{Refusal}
 
 -- ---- numbers
 
@@ -81,11 +83,11 @@ unicode_casemap =
     ∷ 0x63 ∷ 0x61 ∷ 0x73 ∷ 0x65 ∷ 0x6D ∷ 0x61 ∷ 0x70 ∷ []
 
 -- the words of an answer
-abbrev pub words_of : Ordered → List ℕ
-words_of Less = less
-words_of Equal = equal
-words_of Greater = greater
-words_of (Refused r) = refused_word ++ decimal r.number
+abbrev pub words_of : Result Ordering Refusal → List ℕ
+words_of (Ok Less) = less
+words_of (Ok Equal) = equal
+words_of (Ok Greater) = greater
+words_of (Err r) = refused_word ++ decimal r.number
 
 -- ---- lines
 
@@ -98,7 +100,7 @@ abbrev pub numbered : List ℕ → ℕ → List ℕ
 numbered word n = ended (word ++ decimal n)
 
 -- the line of an answer
-abbrev pub answer_line : Ordered → List ℕ
+abbrev pub answer_line : Result Ordering Refusal → List ℕ
 answer_line answer = ended (words_of answer)
 
 -- the first line

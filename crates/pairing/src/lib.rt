@@ -7,34 +7,28 @@
 mod words;
 
 ghost use Rattle.std.specs.Prelude.{◌≡◌, [], ◌∷◌, ◌<◌, length};
-ghost use Rattle.terms.specs.Refusals.{refused, refusal};
+ghost use Rattle.terms.specs.Refusals.{refusal};
 ghost use Rattle.table.specs.Table.{table};
 ghost use Rattle.pages.specs.Pages.{pages};
 ghost use Rattle.decompose.specs.TableCheck.{Usable};
 ghost use Rattle.prepare.specs.Calls.{Called};
 ghost use Rattle.compare.specs.Compare.{order_outcome, order_values};
 ghost use Rattle.pairing.specs.Pairing.{tab_of, call_around};
-ghost use Rattle.pairing.specs.Promises.{tab_found, Judges};
+ghost use Rattle.pairing.specs.Promises.{Judges};
+ghost use Rattle.terms.specs.Reasons.{reason_number};
 
-use compare::Ordered;
-use terms::Refusal;
+use std::cmp::Ordering;
+use terms::{Reason, Refusal};
 pub use words::{WORDS_MOST, put_answer, put_count, put_heading, put_table_refusal};
 
 // The longest line that is taken, in octets: two texts of terms::TEXT_MOST and the tab.
 pub const PAIR_MOST: usize = 8193;
 
 // Between the texts of a line.
-const TAB: u8 = 0x09;
+const TAB: u8 = b'\t';
 
-// Where the first tab of a line stands, if there is one.
-#[derive(Clone, Copy)]
-pub enum Tab {
-    At(usize),
-    Nowhere,
-}
-
-// How the two texts of a line are ordered, or which number refuses it, over a table that is accepted, with its pages. The keys are left as by
-// `compare::order` where the texts are compared; else both buffers stay.
+// How the two texts of a line are ordered, or which number refuses it, over a table that is accepted, with its pages. The keys
+// are left as by `compare::order` where the texts are compared; else both buffers stay.
 pub fn judge(
     line: &[u8],
     entries: &[u32],
@@ -43,22 +37,19 @@ pub fn judge(
     ranks: &[u64],
     first_key: &mut [u8],
     second_key: &mut [u8],
-) -> Ordered
+) -> Result<Ordering, Refusal>
     requires { Usable (table entries.now pool.now) (pages presence.now ranks.now) }
     ensures { Judges line.now (table entries.now pool.now)
         (pages presence.now ranks.now) first_key.old second_key.old result
         (first_key.new ∷ second_key.new ∷ []) }
 {
     if PAIR_MOST < line.len() {
-        return refuse(terms::REFUSED_TEXT_LENGTH);
+        return Err(refuse(Reason::TextLength));
     }
-    let tab = find_tab(line);
-    match tab {
-        Tab::At(at) => order_around(
-            line, at, entries, pool, presence, ranks, first_key, second_key,
-        ),
-        Tab::Nowhere => refuse(terms::REFUSED_NO_TAB),
-    }
+    let at = find_tab(line).ok_or(refuse(Reason::NoTab))?;
+    order_around(
+        line, at, entries, pool, presence, ranks, first_key, second_key,
+    )
 }
 
 // How the text before a place of a line and the text after it are ordered.
@@ -71,17 +62,16 @@ fn order_around(
     ranks: &[u64],
     first_key: &mut [u8],
     second_key: &mut [u8],
-) -> Ordered
+) -> Result<Ordering, Refusal>
     requires { (at < length line.now) × Usable (table entries.now pool.now) (pages presence.now ranks.now) }
     ensures { Called order_outcome order_values (call_around line.now
         (table entries.now pool.now) (pages presence.now ranks.now)
         first_key.old second_key.old at) result (first_key.new ∷ second_key.new ∷ []) }
 {
-    let next = at + 1;
     compare::order_accepted(
         terms::UNICODE_CASEMAP,
         &line[..at],
-        &line[next..],
+        &line[at + 1..],
         entries,
         pool,
         presence,
@@ -91,27 +81,20 @@ fn order_around(
     )
 }
 
-// The answer for a line by its number alone: place and detail are 0.
-pub fn refuse(number: u32) -> Ordered
-    ensures { order_outcome result ≡ refused (refusal number 0 0) }
+// The refusal of a line by its number alone: place and detail are 0.
+pub fn refuse(reason: Reason) -> Refusal
+    ensures { result ≡ refusal (reason_number reason) 0 0 }
 {
-    Ordered::Refused(Refusal {
-        number,
+    Refusal {
+        reason,
         place: 0,
         detail: 0,
-    })
+    }
 }
 
-// Where the first tab of a line stands.
-fn find_tab(line: &[u8]) -> Tab
-    ensures { tab_found result ≡ tab_of line.now }
+// Where the first tab of a line stands, if there is one.
+fn find_tab(line: &[u8]) -> Option<usize>
+    ensures { result ≡ tab_of line.now }
 {
-    let mut i = 0;
-    while i < line.len() {
-        if line[i] == TAB {
-            return Tab::At(i);
-        }
-        i += 1;
-    }
-    Tab::Nowhere
+    line.iter().position(|&o| o == TAB)
 }

@@ -5,28 +5,23 @@ ghost use Rattle.std.specs.Prelude.{◌+◌, ◌≤◌, length};
 ghost use Rattle.octets.specs.Put.{Puts};
 ghost use Rattle.pairing.specs.Words.{words_most, decimal, numbered, answer_line, heading_line, count_line, table_line};
 
-use compare::Ordered;
 use octets::put_octets;
+use std::cmp::Ordering;
+use terms::Refusal;
 
 // Room for any of these lines, in octets.
 pub const WORDS_MOST: usize = 35;
 
-// Ends each line.
-const LINE_FEED: u8 = 0x0A;
-
-// The digit 0 in ASCII.
-const ZERO: u8 = 0x30;
-
 // Writes the line of an answer.
-pub fn put_answer(answer: Ordered, out: &mut [u8]) -> usize
+pub fn put_answer(answer: Result<Ordering, Refusal>, out: &mut [u8]) -> usize
     requires { words_most ≤ length out.old }
     ensures { Puts (answer_line answer) out.old result out.new }
 {
     match answer {
-        Ordered::Less => put_octets(b"less\n", out),
-        Ordered::Equal => put_octets(b"equal\n", out),
-        Ordered::Greater => put_octets(b"greater\n", out),
-        Ordered::Refused(r) => put_numbered(b"refused ", r.number as u64, out),
+        Ok(Ordering::Less) => put_octets(b"less\n", out),
+        Ok(Ordering::Equal) => put_octets(b"equal\n", out),
+        Ok(Ordering::Greater) => put_octets(b"greater\n", out),
+        Err(r) => put_numbered(b"refused ", u64::from(r.reason.number()), out),
     }
 }
 
@@ -51,7 +46,7 @@ pub fn put_table_refusal(number: u32, out: &mut [u8]) -> usize
     requires { words_most ≤ length out.old }
     ensures { Puts (table_line number) out.old result out.new }
 {
-    put_numbered(b"table refused ", number as u64, out)
+    put_numbered(b"table refused ", u64::from(number), out)
 }
 
 // Writes a word, a number in decimal, and the line end.
@@ -60,22 +55,22 @@ fn put_numbered(word: &[u8], n: u64, out: &mut [u8]) -> usize
     ensures { Puts (numbered word.now n) out.old result out.new }
 {
     let at = put_octets(word, out);
-    let digits = put_decimal(n, &mut out[at..]);
-    let end = at + digits;
-    out[end] = LINE_FEED;
+    let end = at + put_decimal(n, &mut out[at..]);
+    out[end] = b'\n';
     end + 1
 }
 
-// Writes a number in decimal.
+// Writes a number in decimal. By hand, since std's `write!` promises nothing of what stands in a slice after it, and
+// `put_count` does.
 fn put_decimal(n: u64, out: &mut [u8]) -> usize
     requires { length (decimal n) ≤ length out.old }
     ensures { Puts (decimal n) out.old result out.new }
 {
     if n < 10 {
-        out[0] = ZERO + n as u8;
+        out[0] = b'0' + n as u8;
         return 1;
     }
     let at = put_decimal(n / 10, out);
-    out[at] = ZERO + (n % 10) as u8;
+    out[at] = b'0' + (n % 10) as u8;
     at + 1
 }

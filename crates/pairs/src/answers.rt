@@ -1,127 +1,75 @@
 // The answers for the lines of standard input.
-ghost use Rattle.std.specs.Prelude.{◌≤◌, length};
 ghost use Rattle.table.specs.Table.{table};
 ghost use Rattle.pages.specs.Pages.{pages};
 ghost use Rattle.decompose.specs.TableCheck.{Usable};
-ghost use Rattle.pairs.specs.Reading.{Stands, Answers, lines_most};
 
-use crate::reader::{Next, Reader};
-use crate::{output, reader};
-use compare::Ordered;
-use std::io::{Read, Write};
-
-// Room for what is printed, in octets, before it is written.
-const OUTPUT_OCTETS: usize = 65536;
+use crate::reader;
+use std::io;
+use std::io::{BufRead, Write};
 
 // Room for a key, in octets.
 const KEY_OCTETS: usize = 12288;
 
-// The answer for the next line.
-#[derive(Drop)]
-pub enum Answered {
-    Answer(Ordered, Reader),
-    // A read failed, which is taken as the end of what can be read.
-    Nothing(Reader),
-    End,
-}
-
 // Answers every line of an input: the heading, a line for each, and the count.
-pub fn answer_all<R: Read, W: Write>(
+pub fn answer_all<R: BufRead, W: Write>(
     input: &mut R,
     printed: &mut W,
-    buffer: &mut [u8],
+    line: &mut Vec<u8>,
     entries: &[u32],
     pool: &[u32],
     presence: &[u64],
     ranks: &[u64],
-)
+) -> io::Result<()>
     requires { Usable (table entries.now pool.now) (pages presence.now ranks.now) }
 {
-    let mut out = [0u8; OUTPUT_OCTETS];
-    let mut first_key = [0u8; KEY_OCTETS];
-    let mut second_key = [0u8; KEY_OCTETS];
-    answer_lines(
-        input,
-        printed,
-        buffer,
-        entries,
-        pool,
-        presence,
-        ranks,
-        &mut first_key,
-        &mut second_key,
-        &mut out,
-    );
+    let mut words = [0; pairing::WORDS_MOST];
+    let n = pairing::put_heading(&mut words);
+    printed.write_all(&words[..n])?;
+    let count = answer_lines(input, printed, line, entries, pool, presence, ranks)?;
+    let n = pairing::put_count(count, &mut words);
+    printed.write_all(&words[..n])?;
+    printed.flush()
 }
 
-// The same, with the key buffers and the output buffer lent.
-fn answer_lines<R: Read, W: Write>(
+// Prints a line for each line of an input, and answers how many there were.
+fn answer_lines<R: BufRead, W: Write>(
     input: &mut R,
     printed: &mut W,
-    buffer: &mut [u8],
+    line: &mut Vec<u8>,
     entries: &[u32],
     pool: &[u32],
     presence: &[u64],
     ranks: &[u64],
-    first_key: &mut [u8],
-    second_key: &mut [u8],
-    out: &mut [u8],
-)
-    requires { Usable (table entries.now pool.now) (pages presence.now ranks.now) × (lines_most ≤ length out.old) }
+) -> io::Result<u64>
+    requires { Usable (table entries.now pool.now) (pages presence.now ranks.now) }
 {
-    let mut reader = Reader::new();
-    let mut output = output::start(out);
-    let mut count: u64 = 0;
-    loop {
-        let answered = answer_next(
-            input, buffer, reader, entries, pool, presence, ranks, first_key, second_key,
+    let mut first = [0; KEY_OCTETS];
+    let mut second = [0; KEY_OCTETS];
+    let mut words = [0; pairing::WORDS_MOST];
+    let mut count = 0;
+    let mut ended = false;
+    for _ in 0..u64::MAX {
+        // A failed read is taken as the end of what can be read: what came before it is a last line.
+        let read = reader::read_line(input, line, &mut ended);
+        let is_ended = read.is_err();
+        if !read.unwrap_or(!line.is_empty()) {
+            break;
+        }
+        let answer = pairing::judge(
+            line.as_slice(),
+            entries,
+            pool,
+            presence,
+            ranks,
+            &mut first,
+            &mut second,
         );
-        match answered {
-            Answered::Answer(answer, rest) => {
-                output = output::add_answer(printed, answer, out, output);
-                if output.failed {
-                    return;
-                }
-                count += 1;
-                reader = rest;
-            }
-            Answered::Nothing(rest) => {
-                reader = rest;
-            }
-            Answered::End => {
-                output::finish(printed, count, out, output);
-                return;
-            }
+        let n = pairing::put_answer(answer, &mut words);
+        printed.write_all(&words[..n])?;
+        count += 1;
+        if is_ended {
+            break;
         }
     }
-}
-
-// The answer for the next line.
-fn answer_next<R: Read>(
-    input: &mut R,
-    buffer: &mut [u8],
-    reader: Reader,
-    entries: &[u32],
-    pool: &[u32],
-    presence: &[u64],
-    ranks: &[u64],
-    first_key: &mut [u8],
-    second_key: &mut [u8],
-) -> Answered
-    requires { Stands (length buffer.old) reader × Usable (table entries.now pool.now) (pages presence.now ranks.now) }
-    ensures { Answers (length buffer.old) reader.left result }
-{
-    let next = reader::next_line(input, buffer, reader);
-    match next {
-        Next::Line(start, end, rest) => {
-            let line = &buffer[start..end];
-            let answer = pairing::judge(
-                line, entries, pool, presence, ranks, first_key, second_key,
-            );
-            Answered::Answer(answer, rest)
-        }
-        Next::Long(rest) => Answered::Answer(pairing::refuse(terms::REFUSED_TEXT_LENGTH), rest),
-        Next::Failed(rest) => Answered::Nothing(rest),
-        Next::End => Answered::End,
-    }
+    Ok(count)
 }

@@ -1,110 +1,77 @@
 // The table from the lines of a file.
-ghost use Rattle.std.specs.Prelude.{ℕ, length};
-ghost use Rattle.builder.specs.Builder.{built};
-ghost use Rattle.builder.specs.Promises.{UsedFits};
-ghost use Rattle.pairs.specs.Reading.{Stands, Goes, GrownFits, AddedFits};
+ghost use Rattle.std.specs.Prelude.{◌≡◌};
+ghost use Rattle.pairs.specs.Reading.{printed_number, GrownFits};
 
 use crate::reader;
-use crate::reader::{Next, Reader};
-use builder::{Line, LineState};
+use builder::LineState;
+use std::alloc::Global;
 use std::fs::File;
-use std::io::Read;
+use std::io::{BufRead, BufReader};
 use std::rt::Files;
+use terms::Reason;
 
-// The number for a file that can't be read.
-const UNREADABLE: u32 = 0;
-
-// What becomes of the lines of a file.
-#[derive(Drop)]
-pub enum Grown {
-    Table(LineState),
-    // A line is refused, by its number, or the file can't be read.
-    Refused(u32),
+// Why the lines of a file make no table.
+#[derive(Clone, Copy, PartialEq, Eq, Debug)]
+pub enum NoTable {
+    // The file can't be read.
+    Unreadable,
+    // A line is refused.
+    Refused(Reason),
 }
 
-// What becomes of one line more.
-#[derive(Drop)]
-pub enum Added {
-    Taken(LineState, Reader),
-    Done(Grown),
-}
-
-// Adds the lines of a file to a fresh table.
-pub fn grow_from<F: Files>(
-    files: &F,
-    path: &str,
-    buffer: &mut [u8],
-    entries: &mut [u32],
-    pool: &mut [u32],
-) -> Grown
-    ensures { GrownFits entries.new pool.new result }
-{
-    let opened = File::open(files, path);
-    match opened {
-        Ok(mut file) => grow(&mut file, buffer, entries, pool),
-        Err(_) => Grown::Refused(UNREADABLE),
+impl NoTable {
+    // The number that is printed: the refusal's, or 0.
+    pub fn number(self) -> u32
+        ensures { result ≡ printed_number self }
+    {
+        match self {
+            NoTable::Unreadable => 0,
+            NoTable::Refused(reason) => reason.number(),
+        }
     }
 }
 
-// Adds all lines.
-fn grow<R: Read>(input: &mut R, buffer: &mut [u8], entries: &mut [u32], pool: &mut [u32]) -> Grown
+// Adds the lines of a file to a fresh table. An error is the first line's that is refused.
+pub fn grow_from<F: Files>(
+    files: &F,
+    alloc: Global,
+    path: &str,
+    line: &mut Vec<u8>,
+    entries: &mut [u32],
+    pool: &mut [u32],
+) -> Result<LineState, NoTable>
     ensures { GrownFits entries.new pool.new result }
 {
-    let mut reader = Reader::new();
+    let file = File::open(files, path).map_err(|_| NoTable::Unreadable)?;
+    let mut input = BufReader::with_capacity(alloc, reader::AT_ONCE, file).map_err(
+        |_| NoTable::Unreadable,
+    )?;
+    grow(&mut input, line, entries, pool)
+}
+
+// Adds all lines.
+fn grow<R: BufRead>(
+    input: &mut R,
+    line: &mut Vec<u8>,
+    entries: &mut [u32],
+    pool: &mut [u32],
+) -> Result<LineState, NoTable>
+    ensures { GrownFits entries.new pool.new result }
+{
     let mut state = LineState {
         entries_used: 0,
         pool_used: 0,
         next: 0,
     };
-    loop {
-        let added = add_next(input, buffer, reader, state, entries, pool);
-        match added {
-            Added::Taken(s, rest) => {
-                state = s;
-                reader = rest;
-            }
-            Added::Done(grown) => {
-                return grown;
-            }
+    let mut ended = false;
+    for _ in 0..u64::MAX {
+        if !reader::read_line(input, line, &mut ended).map_err(|_| NoTable::Unreadable)? {
+            break;
         }
+        state = match builder::add_line(state, line.as_slice(), entries, pool) {
+            Ok(after) => after,
+            Err(refused) => return Err(NoTable::Refused(refused.refusal.reason)),
+        };
     }
-}
-
-// Adds the next line.
-fn add_next<R: Read>(
-    input: &mut R,
-    buffer: &mut [u8],
-    reader: Reader,
-    state: LineState,
-    entries: &mut [u32],
-    pool: &mut [u32],
-) -> Added
-    requires { Stands (length buffer.old) reader × UsedFits (built state entries.old pool.old) }
-    ensures { AddedFits (length buffer.old) reader.left entries.new pool.new result }
-{
-    let next = reader::next_line(input, buffer, reader);
-    match next {
-        Next::Line(start, end, rest) => add_read(&buffer[start..end], rest, state, entries, pool),
-        Next::Long(_) => Added::Done(Grown::Refused(terms::REFUSED_LINE_LENGTH)),
-        Next::Failed(_) => Added::Done(Grown::Refused(UNREADABLE)),
-        Next::End => Added::Done(Grown::Table(state)),
-    }
-}
-
-// Adds a line that was read.
-fn add_read(
-    line: &[u8],
-    rest: Reader,
-    state: LineState,
-    entries: &mut [u32],
-    pool: &mut [u32],
-) -> Added
-    requires { UsedFits (built state entries.old pool.old) }
-    ensures { (n bound : ℕ) → Goes n bound rest → AddedFits n bound entries.new pool.new result }
-{
-    let added = builder::add_line(state, line, entries, pool);
-    match added {
-        Line::Taken(s) => Added::Taken(s, rest),
-        Line::Refused(r, _) => Added::Done(Grown::Refused(r.number)),
-    }
+    Ok(state)
 }

@@ -5,7 +5,7 @@ use Prim.Native.Nat.{Ordering}
 use Prim.Native.Nat.{ℕ, zero, suc, ◌+◌, ◌-◌, ◌<◌}
 use native.Mathlib.Omega.{arith}
 use mathlib.Core.Bool.{Bool, true, false, not}
-use mathlib.Core.Option.{Option, none, some}
+use Rattle.std.specs.Prelude.{Option, None, Some}
 use mathlib.Core.List.{List, [], ◌∷◌, ◌++◌, map}
 use lib.Dec.{leb, ltb}
 use lib.ListN.{length, get_or, length-map}
@@ -63,11 +63,11 @@ lowest-first p a (suc m) =
 
     go : (us : List ℕ) (o : Option ℕ) (b : Bool) → p (a + m) ≡ b → first_from1 a us ≡ counted_from1 o
         → first_from1 a (us ++ those p ((a + m) ∷ [])) ≡ counted_from1 (or_else o (when (p (a + m)) m))
-    go [] none true e h = rw e (ap suc (let n : a + m - a ≡ m = omega arith in n))
-    go [] none false e h = rw e
-    go [] (some j) b e h = let z : ◌≡◌ {A = ℕ} 0 (suc j) = h in absurd (omega arith)
-    go (u ∷ us) none b e h = absurd (omega (arith, h))
-    go (u ∷ us) (some j) b e h = h
+    go [] None true e h = rw e (ap suc (let n : a + m - a ≡ m = omega arith in n))
+    go [] None false e h = rw e
+    go [] (Some j) b e h = let z : ◌≡◌ {A = ℕ} 0 (suc j) = h in absurd (omega arith)
+    go (u ∷ us) None b e h = absurd (omega (arith, h))
+    go (u ∷ us) (Some j) b e h = h
 
 -- ---- the sorted row
 

@@ -8,7 +8,7 @@ use Prim.Native.Nat.{ℕ, zero, suc, ◌+◌, ◌-◌, ◌≤◌, ◌<◌}
 use native.Mathlib.Omega.{arith}
 use mathlib.Core.Bool.{Bool, true, false, cond, not, true≢false}
 use mathlib.Core.Logic.{◌↔◌}
-use mathlib.Core.Option.{Option, none, some}
+use Rattle.std.specs.Prelude.{Option, None, Some}
 use mathlib.Core.List.{List, [], ◌∷◌, map}
 use lib.Dec.{eqb, ltb, eqb-suc-suc}
 use lib.ListN.{length, get_or, length-map}
@@ -81,14 +81,14 @@ equal_pairs_of-swap ks (q ∷ qs) = equal_pairs_of-more ks qs q ∙ ap (λ (n : 
 -- ---- the lowest partner
 
 -- nothing is counted as 0
-counted_none : (o : Option ℕ) → counted_from1 o ≡ 0 → o ≡ none
-counted_none none e = refl
-counted_none (some j) e = absurd (omega (arith, e))
+counted_none : (o : Option ℕ) → counted_from1 o ≡ 0 → o ≡ None
+counted_none None e = refl
+counted_none (Some j) e = absurd (omega (arith, e))
 
 -- and a number as one more
-counted-some : (o : Option ℕ) (j : ℕ) → counted_from1 o ≡ suc j → o ≡ some j
-counted-some none j e = let z : ◌≡◌ {A = ℕ} 0 (suc j) = e in absurd (omega arith)
-counted-some (some i) j e = let z : i ≡ j = omega (arith, e) in ap some z
+counted-some : (o : Option ℕ) (j : ℕ) → counted_from1 o ≡ suc j → o ≡ Some j
+counted-some None j e = let z : ◌≡◌ {A = ℕ} 0 (suc j) = e in absurd (omega arith)
+counted-some (Some i) j e = let z : i ≡ j = omega (arith, e) in ap Some z
 
 -- the key with a number is this key
 abbrev equal_at : List (List ℕ) → List ℕ → ℕ → Bool

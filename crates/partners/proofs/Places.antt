@@ -52,11 +52,11 @@ module _ (key : ℕ → List ℕ) (middle : ℕ) (row : List ℕ) (partners₀ p
   pub reached-start : Reached (length row) (record { count = 0; lowest = 0 }) middle 0 0 partners₀ positions₀
   unfolding leading those
   reached-start =
-      let none : drop (length row) row ≡ [] = drop_of_length-le row {i = length row} (omega arith) in
+      let None : drop (length row) row ≡ [] = drop_of_length-le row {i = length row} (omega arith) in
       record {
         inside = omega arith;
-        tells = rw none (record { count = refl; lowest = refl });
-        walked = rw none (walked_start key middle row partners₀ positions₀);
+        tells = rw None (record { count = refl; lowest = refl });
+        walked = rw None (walked_start key middle row partners₀ positions₀);
       }
 
   -- the numbers of the first list from a place on
@@ -80,7 +80,7 @@ module _ (key : ℕ → List ℕ) (middle : ℕ) (row : List ℕ) (partners₀ p
       ∙ partners-after key middle row i a h k
 
   module _ {i free pairs names : ℕ} {g : Group} {partners positions : List ℕ}
-      (r : Reached i g free pairs names partners positions) (some : 0 < i) where
+      (r : Reached i g free pairs names partners positions) (Some : 0 < i) where
     back : suc (i - 1) ≡ i
     back = omega arith
 

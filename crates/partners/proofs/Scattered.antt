@@ -54,8 +54,8 @@ module _ (f : ℕ → ℕ) where
       → scattered f (numbers x n) slice ≡ take x slice ++ (map f (numbers x n) ++ drop (x + n) slice)
   unfolding scattered numbers
   scattered-from x zero slice h =
-      let none : x ≡ x + 0 = omega arith in
-      sym (take-append-drop x slice) ∙ ap (λ (n : ℕ). take x slice ++ drop n slice) none
+      let None : x ≡ x + 0 = omega arith in
+      sym (take-append-drop x slice) ∙ ap (λ (n : ℕ). take x slice ++ drop n slice) None
   scattered-from x (suc n) slice h =
       let rest = map f (numbers (suc x) n) in
       let more : suc x + n ≡ x + suc n = omega arith in

@@ -125,9 +125,9 @@ length-numbers x (suc n) = ap suc (length-numbers (suc x) n)
 pub numbers-append : (x n m : ℕ) → numbers x (n + m) ≡ numbers x n ++ numbers (x + n) m
 unfolding numbers
 numbers-append x zero m =
-    let none : 0 + m ≡ m = omega arith in
+    let None : 0 + m ≡ m = omega arith in
     let from : x ≡ x + 0 = omega arith in
-    ap₂ numbers from none
+    ap₂ numbers from None
 numbers-append x (suc n) m =
     let more : suc n + m ≡ suc (n + m) = omega arith in
     let from : suc x + n ≡ x + suc n = omega arith in

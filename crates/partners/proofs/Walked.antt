@@ -209,8 +209,8 @@ module _ (key : ℕ → List ℕ) (middle m : ℕ) where
         ∙ length-sorted (key_order key) (numbers 0 middle)
         ∙ length-numbers 0 middle
         in
-        let none : free ≡ 0 = omega (arith, w.left, all) in
-        w.ordered ∙ ap₂ (λ (k : ℕ) (xs : List ℕ). put_at k xs positions₀) none positions-found;
+        let None : free ≡ 0 = omega (arith, w.left, all) in
+        w.ordered ∙ ap₂ (λ (k : ℕ) (xs : List ℕ). put_at k xs positions₀) None positions-found;
   }
 
   -- as many numbers of the first list are left as are free

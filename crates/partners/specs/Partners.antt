@@ -2,7 +2,7 @@
 -- says how it is found.
 -- Assumes nothing.
 use Rattle.std.specs.Prelude.{ℕ, suc, Bool, cond, not, List, [], ◌∷◌, map, length, get_or}
-use Rattle.std.proofs.Math.Option.{Option, none, some}
+use Rattle.std.specs.Prelude.{Option, None, Some}
 use Rattle.terms.specs.Lists.{empty, lowest, total, same}
 use Rattle.sorting.specs.Sorted.{sorted, numbers}
 use Rattle.sorting.specs.KeyOrder.{key_order}
@@ -26,8 +26,8 @@ partnered ks qs = length (those (λ k. not (empty (equal_to qs k))) ks)
 
 -- "counted from 1; 0 if none"
 abbrev pub counted_from1 : Option ℕ → ℕ
-counted_from1 none = 0
-counted_from1 (some j) = suc j
+counted_from1 None = 0
+counted_from1 (Some j) = suc j
 
 -- "the lowest-numbered partner of each"
 unfoldable pub partner_of : List (List ℕ) → List ℕ → ℕ

@@ -4,7 +4,6 @@ ghost use Rattle.sorting.specs.Sorted.{ascending};
 ghost use Rattle.sorting.specs.KeyOrder.{key_in, Ends, all_numbered, key_order};
 ghost use Rattle.partners.specs.Groups.{partners_in, leading, Tells, key_repeats};
 
-use octets::Comparison;
 use sorting::key_at;
 
 // The second list's numbers that have a key.
@@ -14,6 +13,12 @@ pub struct Group {
     // The lowest, from 1; 0 if there is none.
     pub lowest: u32,
 }
+
+// The group of a key that no number has.
+pub const EMPTY: Group = Group {
+    count: 0,
+    lowest: 0,
+};
 
 // The group of the key at a place, of the numbers from there on, given that of the next place.
 pub fn group_at(
@@ -63,11 +68,9 @@ fn group_after(
         (key_in store.now ends.now (get_or row.now i 0)) (drop (suc i) row.now)) result }
 {
     if repeats_key(store, ends, row, i) {
-        return next;
-    }
-    Group {
-        count: 0,
-        lowest: 0,
+        next
+    } else {
+        EMPTY
     }
 }
 
@@ -83,10 +86,5 @@ pub fn repeats_key(store: &[u8], ends: &[usize], row: &[u32], i: usize) -> bool
     }
     let a = key_at(store, ends, row[i] as usize);
     let b = key_at(store, ends, row[i + 1] as usize);
-    let comparison = octets::compare_octets(a, b);
-    match comparison {
-        Comparison::Equal => true,
-        Comparison::Less => false,
-        Comparison::Greater => false,
-    }
+    octets::compare_octets(a, b).is_eq()
 }

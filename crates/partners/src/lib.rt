@@ -9,13 +9,13 @@
 
 mod groups;
 
-ghost use Rattle.std.specs.Prelude.{◌≡◌, cond, ◌<◌, ◌≤◌, eqb, length};
+ghost use Rattle.std.specs.Prelude.{◌≡◌, ◌<◌, ◌≤◌, length};
 ghost use Rattle.sorting.specs.Sorted.{sorted, numbers};
 ghost use Rattle.sorting.specs.KeyOrder.{key_in, Ends, key_order};
 ghost use Rattle.partners.specs.Promises.{FindsIn};
 
 pub use groups::repeats_key;
-use groups::{Group, group_at};
+use groups::{EMPTY, group_at};
 
 // The totals of two lists.
 #[derive(Clone, Copy)]
@@ -68,10 +68,8 @@ fn number(row: &mut [u32])
     requires { length row.old < 0x100000000 }
     ensures { row.new ≡ numbers 0 (length row.old) }
 {
-    let mut i = 0;
-    while i < row.len() {
+    for i in 0..row.len() {
         row[i] = i as u32;
-        i += 1;
     }
 }
 
@@ -94,16 +92,11 @@ pub fn walk(
     ensures { FindsIn store.now ends.now middle partners.old positions.old result
         partners.new positions.new }
 {
-    let mut i = row.len();
     let mut free = middle;
-    let mut group = Group {
-        count: 0,
-        lowest: 0,
-    };
+    let mut group = EMPTY;
     let mut equal_pairs = 0;
     let mut partnered = 0;
-    while 0 < i {
-        i -= 1;
+    for i in (0..row.len()).rev() {
         group = group_at(store, ends, middle, row, i, group);
         let x = row[i] as usize;
         if x < middle {
@@ -111,21 +104,11 @@ pub fn walk(
             positions[free] = row[i] + 1;
             partners[x] = group.lowest;
             equal_pairs += group.count;
-            partnered += one_if_any(group);
+            partnered += usize::from(group.count != 0);
         }
     }
     Totals {
         equal_pairs,
         partnered,
     }
-}
-
-// 1 for a group that has a number, 0 for one that has none.
-fn one_if_any(group: Group) -> usize
-    ensures { result ≡ cond (eqb group.count 0) 0 1 }
-{
-    if group.count == 0 {
-        return 0;
-    }
-    1
 }

@@ -1,11 +1,11 @@
 -- A key that was first written beside: it stands there whole, and what is put from there is the key in its buffer.
 -- Assumes nothing.
+use Rattle.std.specs.Prelude.{None}
 use mathlib.Core.Path.{◌≡◌, refl, sym}
 use Prim.Native.Nat.{ℕ, zero-le, ◌≤◌}
 use native.Mathlib.Omega.{arith}
 use mathlib.Core.Bool.{Bool, true, false, cond, true≢false}
 use mathlib.Core.List.{List}
-use mathlib.Core.Option.{none}
 use lib.ListN.{length, take, drop, length-append}
 use lib.Seq.{take-append_seam}
 use borrow.Author.Tests.{ltb-false}
@@ -14,7 +14,7 @@ use Rattle.terms.specs.declared.Collation.{Collation}
 use Rattle.terms.specs.declared.Collation.TheVariants.{Octet, AsciiCasemap, UnicodeCasemap}
 use Rattle.terms.proofs.Checks.{when-none}
 use Rattle.keys.specs.Keys.{PreparedText, keyed}
-use Rattle.keys.specs.Summaries.{summary_numbers, prepared_numbers, KeyFilled}
+use Rattle.keys.specs.Summaries.{KeyFilled}
 use Rattle.keys.specs.declared.Summary.{Summary}
 use Rattle.prepare.specs.Promises.{needed_at, room_needed, brief}
 use Rattle.prepare.proofs.Rooms.{needed-room_for}
@@ -26,7 +26,7 @@ brief-unicode AsciiCasemap n e = absurd (true≢false (sym e))
 brief-unicode UnicodeCasemap n e = refl
 
 -- a key that passes 8 has as many octets as it needs
-pub needed-enough : (place room : ℕ) (s : Summary) → room_needed place room s ≡ none
+pub needed-enough : (place room : ℕ) (s : Summary) → room_needed place room s ≡ None
     → needed_at s.place s.key_length ≤ room
 needed-enough place room s e = ltb-false room (needed_at s.place s.key_length) (when-none _ _ e)
 

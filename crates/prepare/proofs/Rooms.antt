@@ -1,11 +1,11 @@
 -- What is left of a call that passed 1 to 7 and 15: a summary's numbers say which refusal 8 is, and keys that were written answer
 -- the call.
 -- Assumes nothing.
+use Rattle.std.specs.Prelude.{None, Some, Ok, Err}
 use mathlib.Core.Path.{◌≡◌, refl, sym, ap, ap₂, ◌∙◌}
 use Prim.Native.Nat.{ℕ, zero-le, ◌≤◌}
 use native.Mathlib.Omega.{arith}
 use mathlib.Core.Bool.{Bool, true, false, cond}
-use mathlib.Core.Option.{none, some}
 use mathlib.Core.List.{List, [], ◌∷◌, ◌++◌}
 use lib.ListN.{length}
 use borrow.Author.Tests.{ltb-false, le-ltb}
@@ -27,8 +27,6 @@ use Rattle.keys.proofs.Collations.{table_under-unicode}
 use Rattle.prepare.specs.Calls.{Lent, call, room_check, room_refusal, CalledReady}
 use Rattle.prepare.specs.Preparing.{prepared_values, pair_outcome, PreparesReady}
 use Rattle.prepare.specs.Promises.{needed_at, room_needed}
-use Rattle.prepare.specs.declared.Preparation.TheVariants.{Prepared, Refused}
-use Rattle.prepare.specs.declared.PreparedPair.TheVariants.{Both, Refused as Neither}
 
 -- ---- the room that a summary asks for
 
@@ -49,12 +47,12 @@ module _ (p : PreparedText) (s : Summary) (sized : summary_numbers s ≡ prepare
   room_needed-room_check place room = rw needed-room_for
 
   -- a key that passes 8 has room
-  pub room-enough : (place room : ℕ) → room_needed place room s ≡ none → room_for p ≤ room
+  pub room-enough : (place room : ℕ) → room_needed place room s ≡ None → room_for p ≤ room
   room-enough place room e =
       ltb-false room (room_for p) (when-none _ _ (sym (room_needed-room_check place room) ∙ e))
 
   -- and one that has room passes it
-  pub room-none : (place room : ℕ) → room_for p ≤ room → room_needed place room s ≡ none
+  pub room-none : (place room : ℕ) → room_for p ≤ room → room_needed place room s ≡ None
   room-none place room l = room_needed-room_check place room ∙ rw (le-ltb room (room_for p) l)
 
   -- the lookup count is the definition's
@@ -66,11 +64,11 @@ module _ (p : PreparedText) (s : Summary) (sized : summary_numbers s ≡ prepare
 -- a text's key was written: its summary's numbers, that 8 does not apply, and its buffer
 pub record Written (k : Collation) (t : Table) (place : ℕ) (l : Lent) (s : Summary) (after : List ℕ) : Type 0 where
   pub sized : summary_numbers s ≡ prepared_numbers (prepared k (mapping_of t) l.text)
-  pub room : room_needed place (length l.buffer) s ≡ none
+  pub room : room_needed place (length l.buffer) s ≡ None
   pub left : after ≡ keyed (prepared k (mapping_of t) l.text) l.buffer
 
 -- filling a roomy buffer writes the key
-pub filled-written : {k : Collation} {t : Table} {place : ℕ} {l : Lent} {s : Summary} {after : List ℕ} → table_under k t ≡ none
+pub filled-written : {k : Collation} {t : Table} {place : ℕ} {l : Lent} {s : Summary} {after : List ℕ} → table_under k t ≡ None
     → Roomy k (length l.text) (length l.buffer)
     → KeyFilled (unicode_prepared (mapping_of t) l.text (characters l.text)) l.buffer s after
     → Written k t place l s after
@@ -90,15 +88,15 @@ filled-written {k} {t} {place} {l} {s} table r filled =
 -- the refusal of one text for its key's room
 room_refusal-one : (k : Collation) (t : Table) (p : Pages) (l : Lent) (s : Summary)
     → summary_numbers s ≡ prepared_numbers (prepared k (mapping_of t) l.text)
-    → room_refusal (call (some k) t p (l ∷ [])) ≡ room_needed 1 (length l.buffer) s
+    → room_refusal (call (Some k) t p (l ∷ [])) ≡ room_needed 1 (length l.buffer) s
 room_refusal-one k t p l s sized =
     let x = prepared k (mapping_of t) l.text in
     or_else-none (room_check 1 (length l.buffer) x) ∙ sym (room_needed-room_check x s sized 1 (length l.buffer))
 
 module _ {k : Collation} {t : Table} {p : Pages} {l : Lent} where
   -- there was room, and the key was written
-  pub one_written : {s : Summary} {after : List ℕ} → table_under k t ≡ none → Written k t 1 l s after
-      → PreparesReady (call (some k) t p (l ∷ [])) (Prepared s) after
+  pub one_written : {s : Summary} {after : List ℕ} → table_under k t ≡ None → Written k t 1 l s after
+      → PreparesReady (call (Some k) t p (l ∷ [])) (Ok s) after
   unfolding total
   one_written {s} table w =
       let x = prepared k (mapping_of t) l.text in
@@ -112,8 +110,8 @@ module _ {k : Collation} {t : Table} {p : Pages} {l : Lent} where
 
   -- there was too little
   pub one-refused : (s : Summary) (x : Refusal) → summary_numbers s ≡ prepared_numbers (prepared k (mapping_of t) l.text)
-      → room_needed 1 (length l.buffer) s ≡ some x
-      → PreparesReady (call (some k) t p (l ∷ [])) (Refused x) l.buffer
+      → room_needed 1 (length l.buffer) s ≡ Some x
+      → PreparesReady (call (Some k) t p (l ∷ [])) (Err x) l.buffer
   one-refused s x sized room = record {
     call = record { answered = rw (room_refusal-one k t p l s sized, room); left = rw (room_refusal-one k t p l s sized, room) };
     most = zero-le;
@@ -125,7 +123,7 @@ module _ {k : Collation} {t : Table} {p : Pages} {l : Lent} where
 room_refusal-two : (k : Collation) (t : Table) (p : Pages) (l m : Lent) (one two : Summary)
     → summary_numbers one ≡ prepared_numbers (prepared k (mapping_of t) l.text)
     → summary_numbers two ≡ prepared_numbers (prepared k (mapping_of t) m.text)
-    → room_refusal (call (some k) t p (l ∷ m ∷ []))
+    → room_refusal (call (Some k) t p (l ∷ m ∷ []))
     ≡ or_else (room_needed 1 (length l.buffer) one) (room_needed 2 (length m.buffer) two)
 room_refusal-two k t p l m one two sized sized2 =
     rw (
@@ -137,19 +135,19 @@ room_refusal-two k t p l m one two sized sized2 =
 module _ {k : Collation} {t : Table} {p : Pages} {l m : Lent} where
   -- there was room for both, and both were written
   pub two-written : {one two : Summary} {sAfter tAfter : List ℕ} → Written k t 1 l one sAfter → Written k t 2 m two tAfter
-      → CalledReady pair_outcome prepared_values (call (some k) t p (l ∷ m ∷ [])) (Both one two) (sAfter ∷ tAfter ∷ [])
+      → CalledReady pair_outcome prepared_values (call (Some k) t p (l ∷ m ∷ [])) (Ok (one, two)) (sAfter ∷ tAfter ∷ [])
   two-written {one} {two} w v =
       let rooms = room_refusal-two k t p l m one two w.sized v.sized in
       record {
-        answered = rw (rooms, w.room, v.room) (ap₂ (λ (a b : List ℕ). some (gives (a ++ b ++ []))) w.sized v.sized);
+        answered = rw (rooms, w.room, v.room) (ap₂ (λ (a b : List ℕ). Some (gives (a ++ b ++ []))) w.sized v.sized);
         left = rw (rooms, w.room, v.room) (ap₂ (λ (a b : List ℕ). a ∷ b ∷ []) w.left v.left);
       }
 
   -- there was too little for one of them
   pub two-refused : (one two : Summary) (x : Refusal) → summary_numbers one ≡ prepared_numbers (prepared k (mapping_of t) l.text)
       → summary_numbers two ≡ prepared_numbers (prepared k (mapping_of t) m.text)
-      → or_else (room_needed 1 (length l.buffer) one) (room_needed 2 (length m.buffer) two) ≡ some x
-      → CalledReady pair_outcome prepared_values (call (some k) t p (l ∷ m ∷ [])) (Neither x) (l.buffer ∷ m.buffer ∷ [])
+      → or_else (room_needed 1 (length l.buffer) one) (room_needed 2 (length m.buffer) two) ≡ Some x
+      → CalledReady pair_outcome prepared_values (call (Some k) t p (l ∷ m ∷ [])) (Err x) (l.buffer ∷ m.buffer ∷ [])
   two-refused one two x sized sized2 room = record {
     answered = rw (room_refusal-two k t p l m one two sized sized2, room);
     left = rw (room_refusal-two k t p l m one two sized sized2, room);

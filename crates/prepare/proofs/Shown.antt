@@ -1,8 +1,8 @@
 -- What a caller may cite: the key that a prepared text shows is the text's key, and a refusal shows none.
 -- Assumes nothing.
+use Rattle.std.specs.Prelude.{Option, None, Some, Ok, Err}
 use mathlib.Core.Path.{◌≡◌, refl, ap}
 use Prim.Native.Nat.{ℕ}
-use mathlib.Core.Option.{Option, none, some}
 use mathlib.Core.List.{List, [], ◌∷◌}
 use Rattle.terms.specs.Refusals.{refused, gives}
 use Rattle.terms.specs.declared.Collation.{Collation}
@@ -15,36 +15,32 @@ use Rattle.keys.specs.declared.Summary.{Summary}
 use Rattle.keys.proofs.Injective.{truth-inj}
 use Rattle.keys.proofs.Shown.{shown_at-keyed}
 use Rattle.prepare.specs.Calls.{Lent, call, call_refusal, Answers}
-use Rattle.prepare.specs.Preparing.{preparation_outcome, pair_outcome, numbers_of, prepared_values, shown_key, Prepares}
-use Rattle.prepare.specs.declared.Preparation.{Preparation}
-use Rattle.prepare.specs.declared.Preparation.TheVariants.{Prepared, Refused}
-use Rattle.prepare.specs.declared.PreparedPair.{PreparedPair}
-use Rattle.prepare.specs.declared.PreparedPair.TheVariants.{Both}
+use Rattle.prepare.specs.Preparing.{PreparedPair, Preparation, preparation_outcome, pair_outcome, numbers_of, prepared_values, shown_key, Prepares}
 use Rattle.prepare.proofs.Answering.{answered-gives}
 
 -- ---- one text
 
 module _ {k : Collation} {t : Table} {p : Pages} {l : Lent} {r : Preparation} {after : List ℕ}
-    (h : Prepares (call (some k) t p (l ∷ [])) r after) where
+    (h : Prepares (call (Some k) t p (l ∷ [])) r after) where
   -- a text that was prepared shows its key
-  pub shown-key : call_refusal (call (some k) t p (l ∷ [])) ≡ none → shown_key r l.text after ≡ key_of k (mapping_of t) l.text
+  pub shown-key : call_refusal (call (Some k) t p (l ∷ [])) ≡ None → shown_key r l.text after ≡ key_of k (mapping_of t) l.text
   shown-key e = go r (rw e at h.call.answered) (rw e at h.call.left)
     where
-      go : (x : Preparation) → some (preparation_outcome x) ≡ some (gives (numbers_of (prepared k (mapping_of t) l.text ∷ [])))
+      go : (x : Preparation) → Some (preparation_outcome x) ≡ Some (gives (numbers_of (prepared k (mapping_of t) l.text ∷ [])))
           → after ∷ [] ≡ keyed (prepared k (mapping_of t) l.text) l.buffer ∷ []
           → shown_key x l.text after ≡ key_of k (mapping_of t) l.text
-      go (Prepared s) told left =
+      go (Ok s) told left =
           let one : after ≡ keyed (prepared k (mapping_of t) l.text) l.buffer = cc in
           rw one (shown_at-keyed k (mapping_of t) l.text l.buffer s (cc))
-      go (Refused x) told left = cc
+      go (Err x) told left = cc
 
   -- "On refusal .. a shown key is empty"
-  pub shown-refused : (x : Refusal) → call_refusal (call (some k) t p (l ∷ [])) ≡ some x → shown_key r l.text after ≡ []
+  pub shown-refused : (x : Refusal) → call_refusal (call (Some k) t p (l ∷ [])) ≡ Some x → shown_key r l.text after ≡ []
   shown-refused x e = go r (rw e at h.call.answered)
     where
-      go : (y : Preparation) → some (preparation_outcome y) ≡ some (refused x) → shown_key y l.text after ≡ []
-      go (Prepared s) told = cc
-      go (Refused y) told = refl
+      go : (y : Preparation) → Some (preparation_outcome y) ≡ Some (refused x) → shown_key y l.text after ≡ []
+      go (Ok s) told = cc
+      go (Err y) told = refl
 
 -- ---- two texts
 
@@ -56,10 +52,10 @@ pub record ShownBoth (k : Collation) (t : Table) (l m : Lent) (one two : Summary
 
 module _ {k : Collation} {t : Table} {p : Pages} {l m : Lent} {x : Option Refusal} {r : PreparedPair} {sAfter tAfter : List ℕ}
     {one two : Summary}
-    (h : Answers pair_outcome prepared_values x (call (some k) t p (l ∷ m ∷ [])) r (sAfter ∷ tAfter ∷ []))
-    (e : r ≡ Both one two) where
+    (h : Answers pair_outcome prepared_values x (call (Some k) t p (l ∷ m ∷ [])) r (sAfter ∷ tAfter ∷ []))
+    (e : r ≡ Ok (one, two)) where
   -- nothing was refused
-  pub both-unrefused : x ≡ none
+  pub both-unrefused : x ≡ None
   both-unrefused = (answered-gives h _ (ap pair_outcome e)).0
 
   -- two texts that were prepared show their keys

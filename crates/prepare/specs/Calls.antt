@@ -2,7 +2,7 @@
 -- the pages.
 -- Assumes nothing.
 use Rattle.std.specs.Prelude.{◌≡◌, ℕ, suc, not, cond, ◌&&◌, List, [], ◌∷◌, map, ltb, length}
-use Rattle.std.proofs.Math.Option.{Option, none, some}
+use Rattle.std.specs.Prelude.{Option, None, Some}
 use Rattle.terms.specs.Lists.{or_else, there}
 use Rattle.terms.specs.Refusals.{text_most, check, Outcome, refused, gives}
 use Rattle.terms.specs.Collations.{reads_table}
@@ -46,8 +46,8 @@ two_call k s t entries pool presence ranks sBuffer tBuffer =
 
 -- its texts prepared, each by itself; a number that is no collation's prepares nothing
 abbrev pub prepared_under : Option Collation → Mapping → List Lent → List PreparedText
-prepared_under none m ls = []
-prepared_under (some k) m ls = map (λ l. prepared k m l.text) ls
+prepared_under None m ls = []
+prepared_under (Some k) m ls = map (λ l. prepared k m l.text) ls
 
 abbrev pub prepared_in : Call → List PreparedText
 prepared_in c = prepared_under c.collation (mapping_of c.table) c.lents
@@ -68,7 +68,7 @@ length_check place n = check (ltb text_most n) 2 place n
 
 -- 2: "first text, then second"; the texts are numbered from the given place
 abbrev pub length_checks : ℕ → List ℕ → Option Refusal
-length_checks place [] = none
+length_checks place [] = None
 length_checks place (n ∷ ns) = or_else (length_check place n) (length_checks (suc place) ns)
 
 -- 1 and 2, for texts of these lengths
@@ -77,16 +77,16 @@ texts_refusal k ns = or_else (collation_check k) (length_checks 1 ns)
 
 -- 3 to 7, where the number names a collation
 abbrev pub table_check : Option Collation → Table → Option Refusal
-table_check none t = none
-table_check (some k) t = table_under k t
+table_check None t = None
+table_check (Some k) t = table_under k t
 
 -- 15: "a page slice under 17,408 long", where the collation reads the table: "no other call tests or touches them"
 abbrev pub pages_under : Collation → Pages → Option Refusal
 pages_under k p = check (reads_table k && short_pages p) 15 0 0
 
 abbrev pub pages_check : Option Collation → Pages → Option Refusal
-pages_check none p = none
-pages_check (some k) p = pages_under k p
+pages_check None p = None
+pages_check (Some k) p = pages_under k p
 
 -- 3 to 7, and "after 7 and before 8" 15
 abbrev pub lookup_check : Option Collation → Table → Pages → Option Refusal
@@ -109,8 +109,8 @@ room_check place room p = check (ltb room (room_for p)) 8 place (room_for p)
 -- 8: "first text, then second"
 abbrev pub room_checks : ℕ → List Lent → List PreparedText → Option Refusal
 room_checks place (l ∷ ls) (p ∷ ps) = or_else (room_check place (length l.buffer) p) (room_checks (suc place) ls ps)
-room_checks place [] ps = none
-room_checks place (l ∷ ls) [] = none
+room_checks place [] ps = None
+room_checks place (l ∷ ls) [] = None
 
 -- 8 of a call
 abbrev pub room_refusal : Call → Option Refusal
@@ -130,15 +130,15 @@ keyed_all (p ∷ ps) [] = []
 
 -- the key buffers after a call: "On refusal all buffers stay"; "Comparing calls leave both keys so, each in its own buffer"
 abbrev pub buffers_after : Option Refusal → Call → List (List ℕ)
-buffers_after none c = keyed_all (prepared_in c) c.lents
-buffers_after (some r) c = map (λ l. l.buffer) c.lents
+buffers_after None c = keyed_all (prepared_in c) c.lents
+buffers_after (Some r) c = map (λ l. l.buffer) c.lents
 
 -- two page slices after the checks that come before any key is looked at: "Every call that checks a table under collation 3 .. fills
 -- them afresh"; "on 8 and later ones the pages stay filled"
 abbrev pub pages_by : Option Refusal → Option Collation → Table → Pages → Pages
-pages_by (some r) k t p = p
-pages_by none none t p = p
-pages_by none (some k) t p = cond (reads_table k) (filled t.entries p) p
+pages_by (Some r) k t p = p
+pages_by None None t p = p
+pages_by None (Some k) t p = cond (reads_table k) (filled t.entries p) p
 
 -- the pages after a call
 abbrev pub pages_after : Call → Pages
@@ -146,15 +146,15 @@ pages_after c = pages_by (ready_refusal c) c.collation c.table c.pages
 
 -- what a call tells: the refusal if a check applies, and else its values; nothing where it has neither
 abbrev pub answer_of : Option Refusal → Option (List ℕ) → Option Outcome
-answer_of (some r) v = some (refused r)
-answer_of none none = none
-answer_of none (some values) = some (gives values)
+answer_of (Some r) v = Some (refused r)
+answer_of None None = None
+answer_of None (Some values) = Some (gives values)
 
 -- a call was answered: its outcome is the refusal or the call's values, and the key buffers are those after it. The refusal
 -- is the call's, or what is left of it where some checks were passed.
 pub record Answers {R : Type 0} (outcome : R → Outcome) (values : Call → Option (List ℕ)) (x : Option Refusal) (c : Call)
     (r : R) (after : List (List ℕ)) : Type 0 where
-  pub answered : some (outcome r) ≡ answer_of x (values c)
+  pub answered : Some (outcome r) ≡ answer_of x (values c)
   pub left : after ≡ buffers_after x c
 
 -- the whole call
@@ -173,4 +173,4 @@ CalledReady outcome values c r after = Answers outcome values (room_refusal c) c
 
 -- the table and the pages may be gone on with under the collation that a number names: what the calls ask for that check neither
 abbrev pub UsableBy : Option Collation → Table → Pages → Type 0
-UsableBy o t p = (k : Collation) → o ≡ some k → UsableUnder k t p
+UsableBy o t p = (k : Collation) → o ≡ Some k → UsableUnder k t p

@@ -1,29 +1,36 @@
 -- What preparing a text answers, in the paper's numbers, and the key that it shows.
 -- Assumes nothing.
 use Rattle.std.specs.Prelude.{◌≡◌, ℕ, ◌*◌, ◌≤◌, List, [], ◌∷◌, ◌++◌}
-use Rattle.std.proofs.Math.Option.{Option, some}
+use Rattle.std.specs.Prelude.{Option, Some, Result, Ok, Err}
 use Rattle.terms.specs.Lists.{total}
-use Rattle.terms.specs.Refusals.{Outcome, refused, gives}
+use Rattle.terms.specs.Refusals.{Outcome, outcome}
 use Rattle.terms.specs.declared.Refusal.{Refusal}
 use Rattle.utf8.specs.Utf8.{characters}
 use Rattle.keys.specs.Keys.{PreparedText}
+use Rattle.keys.specs.declared.Summary.{Summary}
 use Rattle.keys.specs.Summaries.{summary_numbers, prepared_numbers, shown_at, character_count}
 use Rattle.pages.specs.Pages.{Pages}
 use Rattle.prepare.specs.Calls.{Call, prepared_in, room_refusal, call_refusal, pages_after, Answers}
-use Rattle.prepare.specs.declared.Preparation.{Preparation}
-use Rattle.prepare.specs.declared.Preparation.TheVariants.{Prepared, Refused}
-use Rattle.prepare.specs.declared.PreparedPair.{PreparedPair}
-use Rattle.prepare.specs.declared.PreparedPair.TheVariants.{Both, Refused as Neither}
+
+-- what preparing a text answers: its summary, or the refusal
+abbrev pub Preparation : Type 0
+Preparation = Result Summary Refusal
 
 -- a preparation's answer
 abbrev pub preparation_outcome : Preparation → Outcome
-preparation_outcome (Prepared s) = gives (summary_numbers s)
-preparation_outcome (Refused r) = refused r
+preparation_outcome r = outcome summary_numbers r
 
--- two preparations' answer: the first text's numbers, and then the second's
+-- the numbers of two summaries, the first text's and then the second's
+abbrev pub pair_numbers : Summary × Summary → List ℕ
+pair_numbers p = summary_numbers p.0 ++ summary_numbers p.1
+
+-- what preparing two texts answers: both summaries, or the refusal
+abbrev pub PreparedPair : Type 0
+PreparedPair = Result (Summary × Summary) Refusal
+
+-- two preparations' answer
 abbrev pub pair_outcome : PreparedPair → Outcome
-pair_outcome (Both s t) = gives (summary_numbers s ++ summary_numbers t)
-pair_outcome (Neither r) = refused r
+pair_outcome r = outcome pair_numbers r
 
 -- the numbers of prepared texts, one after another
 abbrev pub numbers_of : List PreparedText → List ℕ
@@ -32,17 +39,17 @@ numbers_of (p ∷ ps) = prepared_numbers p ++ numbers_of ps
 
 -- the values of a call that prepares its texts
 abbrev pub prepared_values : Call → Option (List ℕ)
-prepared_values c = some (numbers_of (prepared_in c))
+prepared_values c = Some (numbers_of (prepared_in c))
 
 -- the key that a preparation shows: "On refusal .. a shown key is empty"
 abbrev pub shown_key : Preparation → List ℕ → List ℕ → List ℕ
-shown_key (Prepared s) text buffer = shown_at s.place s.key_length text buffer
-shown_key (Refused r) text buffer = []
+shown_key (Ok s) text buffer = shown_at s.place s.key_length text buffer
+shown_key (Err r) text buffer = []
 
 -- the lookup count of a preparation, 0 on a refusal
 abbrev pub lookups_counted : Preparation → ℕ
-lookups_counted (Prepared s) = s.lookups
-lookups_counted (Refused r) = 0
+lookups_counted (Ok s) = s.lookups
+lookups_counted (Err r) = 0
 
 -- how many characters the texts of a call have
 abbrev pub call_characters : Call → ℕ

@@ -1,10 +1,10 @@
 -- What the contracts of the checks and of the filling say with the definitions of the other files.
 -- Assumes nothing.
 use Rattle.std.specs.Prelude.{◌≡◌, ℕ, Bool, ◌&&◌, [], ◌∷◌, leb, ltb}
-use Rattle.std.proofs.Math.Option.{Option, none, some}
+use Rattle.std.specs.Prelude.{Option, Some, Result, Ok, ⊤}
+use Rattle.std.specs.Result.{result_err}
 use Rattle.terms.specs.Collations.{reads_table}
-use Rattle.terms.specs.Refusals.{check, check_refusal}
-use Rattle.terms.specs.declared.Check.{Check}
+use Rattle.terms.specs.Refusals.{check}
 use Rattle.terms.specs.declared.Collation.{Collation}
 use Rattle.terms.specs.declared.Refusal.{Refusal}
 use Rattle.table.specs.Table.{Table}
@@ -13,33 +13,26 @@ use Rattle.keys.specs.declared.KeyPlace.{KeyPlace}
 use Rattle.keys.specs.declared.KeyPlace.TheVariants.{Text, Buffer}
 use Rattle.keys.specs.declared.Summary.{Summary}
 use Rattle.prepare.specs.Calls.{texts_refusal, lookup_check, ready_by, pages_by}
-use Rattle.prepare.specs.declared.CallCheck.{CallCheck}
-use Rattle.prepare.specs.declared.CallCheck.TheVariants.{Passed, Refused}
-
--- the refusal that the check of a call answers, if it is one
-abbrev pub call_check_refusal : CallCheck → Option Refusal
-call_check_refusal (Passed k) = none
-call_check_refusal (Refused r) = some r
 
 -- texts of these lengths were checked for 1 and 2 (a call on one text has 0 for the second): the refusal, and else the collation
-pub record ChecksTexts (o : Option Collation) (a b : ℕ) (r : CallCheck) : Type 0 where
-  pub refusal : call_check_refusal r ≡ texts_refusal o (a ∷ b ∷ [])
-  pub known : (k : Collation) → r ≡ Passed k → o ≡ some k
+pub record ChecksTexts (o : Option Collation) (a b : ℕ) (r : Result Collation Refusal) : Type 0 where
+  pub refusal : result_err r ≡ texts_refusal o (a ∷ b ∷ [])
+  pub known : (k : Collation) → r ≡ Ok k → o ≡ Some k
 
 -- and for 1 to 7 and 15
-pub record ChecksCall (o : Option Collation) (a b : ℕ) (t : Table) (p : Pages) (r : CallCheck) : Type 0 where
-  pub refusal : call_check_refusal r ≡ ready_by o (a ∷ b ∷ []) t p
-  pub known : (k : Collation) → r ≡ Passed k → o ≡ some k
+pub record ChecksCall (o : Option Collation) (a b : ℕ) (t : Table) (p : Pages) (r : Result Collation Refusal) : Type 0 where
+  pub refusal : result_err r ≡ ready_by o (a ∷ b ∷ []) t p
+  pub known : (k : Collation) → r ≡ Ok k → o ≡ Some k
 
 -- and the pages were filled where none of these applies
-pub record ChecksPaging (o : Option Collation) (a b : ℕ) (t : Table) (p : Pages) (r : CallCheck) (q : Pages) : Type 0 where
+pub record ChecksPaging (o : Option Collation) (a b : ℕ) (t : Table) (p : Pages) (r : Result Collation Refusal) (q : Pages) : Type 0 where
   pub checks : ChecksCall o a b t p r
   pub paged : q ≡ pages_by (ready_by o (a ∷ b ∷ []) t p) o t p
 
 -- a table was checked under a collation, and so were the pages
-pub record ChecksTable (k : Collation) (t : Table) (p : Pages) (r : Check) (q : Pages) : Type 0 where
-  pub refusal : check_refusal r ≡ lookup_check (some k) t p
-  pub paged : q ≡ pages_by (lookup_check (some k) t p) (some k) t p
+pub record ChecksTable (k : Collation) (t : Table) (p : Pages) (r : Result ⊤ Refusal) (q : Pages) : Type 0 where
+  pub refusal : result_err r ≡ lookup_check (Some k) t p
+  pub paged : q ≡ pages_by (lookup_check (Some k) t p) (Some k) t p
 
 -- the octets of the key buffer that a key of n octets needs, by where it stands
 abbrev pub needed_at : KeyPlace → ℕ → ℕ

@@ -1,14 +1,15 @@
 // The checks of a call on texts: 1 to 7 and 15, before any key is looked at, and 8 for a key that was sized.
 ghost use Rattle.std.specs.Prelude.{◌≡◌, ◌||◌, ltb};
 ghost use Rattle.terms.specs.Collations.{collation_of};
-ghost use Rattle.terms.specs.Refusals.{pages_most, refusal, check_refusal};
+ghost use Rattle.terms.specs.Refusals.{pages_most, refusal};
+ghost use Rattle.std.specs.Result.{result_err};
 ghost use Rattle.table.specs.Table.{table};
 ghost use Rattle.pages.specs.Pages.{pages};
 ghost use Rattle.prepare.specs.Promises.{ChecksTexts, ChecksPaging, ChecksTable, room_needed};
+ghost use Rattle.terms.specs.Reasons.{reason_number};
 
-use super::CallCheck;
 use keys::{KeyPlace, Summary};
-use terms::{Check, Collation, CollationName, Refusal};
+use terms::{Collation, Reason, Refusal};
 
 // Whether a call on texts of these lengths passes 1 to 7 and 15. The pages are filled then, where the collation reads the table.
 pub fn check_call(
@@ -19,39 +20,34 @@ pub fn check_call(
     pool: &[u32],
     presence: &mut [u64],
     ranks: &mut [u64],
-) -> CallCheck
+) -> Result<Collation, Refusal>
     ensures { ChecksPaging (collation_of collation) first_length second_length
         (table entries.now pool.now) (pages presence.old ranks.old) result
         (pages presence.new ranks.new) }
 {
-    let texts = check_texts(collation, first_length, second_length);
-    match texts {
-        CallCheck::Passed(known) => {
-            let checked = check_table_under(known, entries, pool, presence, ranks);
-            match checked {
-                Check::Passed => CallCheck::Passed(known),
-                Check::Refused(r) => CallCheck::Refused(r),
-            }
-        }
-        CallCheck::Refused(r) => CallCheck::Refused(r),
-    }
+    let known = check_texts(collation, first_length, second_length)?;
+    check_table_under(known, entries, pool, presence, ranks)?;
+    Ok(known)
 }
 
 // Whether a call passes 1 and 2.
-pub fn check_texts(collation: u32, first_length: usize, second_length: usize) -> CallCheck
+pub fn check_texts(
+    collation: u32,
+    first_length: usize,
+    second_length: usize,
+) -> Result<Collation, Refusal>
     ensures { ChecksTexts (collation_of collation) first_length second_length result }
 {
-    let named = terms::collation_of(collation);
-    let CollationName::Known(known) = named else {
-        return refused(terms::REFUSED_COLLATION, 0, 0);
+    let Some(known) = terms::collation_of(collation) else {
+        return Err(refused(Reason::Collation, 0, 0));
     };
     if terms::TEXT_MOST < first_length {
-        return refused(terms::REFUSED_TEXT_LENGTH, 1, first_length);
+        return Err(refused(Reason::TextLength, 1, first_length));
     }
     if terms::TEXT_MOST < second_length {
-        return refused(terms::REFUSED_TEXT_LENGTH, 2, second_length);
+        return Err(refused(Reason::TextLength, 2, second_length));
     }
-    CallCheck::Passed(known)
+    Ok(known)
 }
 
 // Whether a table passes 3 to 7 and the page slices 15, and then fills these: a collation that doesn't read the table asks for
@@ -62,65 +58,49 @@ fn check_table_under(
     pool: &[u32],
     presence: &mut [u64],
     ranks: &mut [u64],
-) -> Check
+) -> Result<(), Refusal>
     ensures { ChecksTable collation (table entries.now pool.now)
         (pages presence.old ranks.old) result (pages presence.new ranks.new) }
 {
     if !terms::reads_table(collation) {
-        return Check::Passed;
+        return Ok(());
     }
-    if let Check::Refused(r) = decompose::check_table(entries, pool) {
-        return Check::Refused(r);
-    }
+    decompose::check_table(entries, pool)?;
     if is_short(presence.len(), ranks.len()) {
-        return Check::Refused(Refusal {
-            number: terms::REFUSED_PAGES,
-            place: 0,
-            detail: 0,
-        });
+        return Err(refused(Reason::Pages, 0, 0));
     }
     pages::fill_pages(entries, presence, ranks);
-    Check::Passed
+    Ok(())
 }
 
 // Whether a page slice is too short, by the lengths of both.
 fn is_short(presence: usize, ranks: usize) -> bool
     ensures { result ≡ (ltb presence pages_most || ltb ranks pages_most) }
 {
-    if presence < terms::PAGES_MOST {
-        return true;
-    }
-    ranks < terms::PAGES_MOST
+    presence < terms::PAGES_MOST || ranks < terms::PAGES_MOST
 }
 
-// Whether a key has room: 8, with the length needed.
-pub fn check_room(place: u32, summary: Summary, room: usize) -> Check
-    ensures { check_refusal result ≡ room_needed place room summary }
+// Whether a key has room: 8, with the length needed. A key that is the text itself needs none.
+pub fn check_room(place: u32, summary: Summary, room: usize) -> Result<(), Refusal>
+    ensures { result_err result ≡ room_needed place room summary }
 {
-    let needed = summary.key_length;
-    let key_place = summary.place;
-    match key_place {
-        KeyPlace::Text => Check::Passed,
-        KeyPlace::Buffer => {
-            if room < needed {
-                return Check::Refused(Refusal {
-                    number: terms::REFUSED_KEY_ROOM,
-                    place,
-                    detail: needed as u64,
-                });
-            }
-            Check::Passed
-        }
+    match summary.place {
+        KeyPlace::Buffer if room < summary.key_length => Err(refused(
+            Reason::Room,
+            place,
+            summary.key_length,
+        )),
+        _ => Ok(()),
     }
 }
 
 // A refusal by its three numbers.
-fn refused(number: u32, place: u32, detail: usize) -> CallCheck
-    ensures { result ≡ CallCheck.Refused (refusal number place detail) }
+fn refused(reason: Reason, place: u32, detail: usize) -> Refusal
+    ensures { result ≡ refusal (reason_number reason) place detail }
 {
-    CallCheck::Refused(Refusal {
-        number,
+    Refusal {
+        reason,
         place,
         detail: detail as u64,
-    })
+    }
 }

@@ -1,6 +1,6 @@
 // Calls that passed 1 to 7 and 15: only 8 is left, and then the keys are written.
 ghost use Rattle.std.specs.Prelude.{◌≡◌, [], ◌∷◌, ◌≤◌, length, take};
-ghost use Rattle.std.proofs.Math.Option.{some};
+ghost use Rattle.std.specs.Prelude.{Some};
 ghost use Rattle.terms.specs.Lists.{over};
 ghost use Rattle.terms.specs.Refusals.{text_most};
 ghost use Rattle.terms.specs.declared.Collation.TheVariants.{UnicodeCasemap};
@@ -12,12 +12,11 @@ ghost use Rattle.prepare.specs.Calls.{one_call, two_call, CalledReady};
 ghost use Rattle.prepare.specs.Preparing.{prepared_values, pair_outcome, PreparesReady};
 ghost use Rattle.prepare.specs.Promises.{needed_at, brief};
 
-use super::{Preparation, PreparedPair};
 use crate::checks::check_room;
 use keys::{
-    KeyPlace, Summary, Trial, fill_key, fill_short, fill_unicode, is_roomy, size_key, try_filling,
+    KeyPlace, Summary, fill_key, fill_short, fill_unicode, is_roomy, size_key, try_filling,
 };
-use terms::{Check, Collation};
+use terms::{Collation, Refusal};
 
 // The most octets of a text that is brief.
 const BRIEF_MOST: usize = 64;
@@ -34,24 +33,21 @@ pub fn fill_one(
     presence: &[u64],
     ranks: &[u64],
     key: &mut [u8],
-) -> Preparation
+) -> Result<Summary, Refusal>
     requires text_len_bound { length text.now ≤ text_most }
     requires usable_under { UsableUnder collation (table entries.now pool.now) (pages presence.now ranks.now) }
     ensures { PreparesReady
-        (one_call (some collation) text.now entries.now pool.now
+        (one_call (Some collation) text.now entries.now pool.now
         presence.now ranks.now key.old) result key.new }
 {
     if is_roomy(collation, text.len(), key.len()) {
         if text.len() < keys::LONG_TEXT {
-            return Preparation::Prepared(fill_short(text, entries, pool, presence, ranks, key));
+            return Ok(fill_short(text, entries, pool, presence, ranks, key));
         }
     }
     // The answer is moved, since that of the quick way would else stand in memory, in the same place.
-    let other = fill_one_apart(collation, text, entries, pool, presence, ranks, key);
-    match other {
-        Preparation::Prepared(summary) => Preparation::Prepared(summary),
-        Preparation::Refused(r) => Preparation::Refused(r),
-    }
+    let other = fill_one_apart(collation, text, entries, pool, presence, ranks, key)?;
+    Ok(other)
 }
 
 // The same with no quick way. It is called from two places, so that it stays apart and the quick way is inlined.
@@ -63,15 +59,15 @@ pub fn fill_one_apart(
     presence: &[u64],
     ranks: &[u64],
     key: &mut [u8],
-) -> Preparation
+) -> Result<Summary, Refusal>
     requires text_len_bound { length text.now ≤ text_most }
     requires usable_under { UsableUnder collation (table entries.now pool.now) (pages presence.now ranks.now) }
     ensures { PreparesReady
-        (one_call (some collation) text.now entries.now pool.now
+        (one_call (Some collation) text.now entries.now pool.now
         presence.now ranks.now key.old) result key.new }
 {
     if is_roomy(collation, text.len(), key.len()) {
-        return Preparation::Prepared(fill_unicode(text, entries, pool, presence, ranks, key));
+        return Ok(fill_unicode(text, entries, pool, presence, ranks, key));
     }
     if is_brief(collation, text.len()) {
         return fill_brief(text, entries, pool, presence, ranks, key);
@@ -83,10 +79,7 @@ pub fn fill_one_apart(
 fn is_brief(collation: Collation, text_length: usize) -> bool
     ensures { result ≡ brief collation text_length }
 {
-    if terms::reads_table(collation) {
-        return text_length <= BRIEF_MOST;
-    }
-    false
+    terms::reads_table(collation) && text_length <= BRIEF_MOST
 }
 
 // Prepares a text under collation 3. A key that may not fit is first written beside, so that a short buffer stays unchanged and
@@ -98,36 +91,28 @@ fn fill_brief(
     presence: &[u64],
     ranks: &[u64],
     key: &mut [u8],
-) -> Preparation
+) -> Result<Summary, Refusal>
     requires text_len_bound { length text.now ≤ text_most }
     requires usable { Usable (table entries.now pool.now) (pages presence.now ranks.now) }
     ensures { PreparesReady
-        (one_call (some UnicodeCasemap) text.now entries.now pool.now
+        (one_call (Some UnicodeCasemap) text.now entries.now pool.now
         presence.now ranks.now key.old) result key.new }
 {
     let mut beside = [0u8; BESIDE_OCTETS];
-    let trial = try_filling(text, entries, pool, presence, ranks, &mut beside);
-    match trial {
-        Trial::Filled(summary) => {
-            let room = check_room(1, summary, key.len());
-            match room {
-                Check::Passed => {
-                    put_beside(&beside, summary, key);
-                    Preparation::Prepared(summary)
-                }
-                Check::Refused(r) => Preparation::Refused(r),
-            }
-        }
-        Trial::Full => fill_sized(
-            Collation::UnicodeCasemap,
-            text,
-            entries,
-            pool,
-            presence,
-            ranks,
-            key,
-        ),
+    if let Some(summary) = try_filling(text, entries, pool, presence, ranks, &mut beside) {
+        check_room(1, summary, key.len())?;
+        put_beside(&beside, summary, key);
+        return Ok(summary);
     }
+    fill_sized(
+        Collation::UnicodeCasemap,
+        text,
+        entries,
+        pool,
+        presence,
+        ranks,
+        key,
+    )
 }
 
 // Puts a key that was written beside into its buffer, if it belongs there.
@@ -137,13 +122,8 @@ fn put_beside(beside: &[u8], summary: Summary, key: &mut [u8])
     ensures { key.new ≡ over (take (needed_at summary.place summary.key_length) beside.now)
         key.old }
 {
-    let n = summary.key_length;
-    let place = summary.place;
-    match place {
-        KeyPlace::Text => {}
-        KeyPlace::Buffer => {
-            octets::put_octets(&beside[..n], key);
-        }
+    if let KeyPlace::Buffer = summary.place {
+        octets::put_octets(&beside[..summary.key_length], key);
     }
 }
 
@@ -156,22 +136,17 @@ fn fill_sized(
     presence: &[u64],
     ranks: &[u64],
     key: &mut [u8],
-) -> Preparation
+) -> Result<Summary, Refusal>
     requires text_len_bound { length text.now ≤ text_most }
     requires usable_under { UsableUnder collation (table entries.now pool.now) (pages presence.now ranks.now) }
     ensures { PreparesReady
-        (one_call (some collation) text.now entries.now pool.now
+        (one_call (Some collation) text.now entries.now pool.now
         presence.now ranks.now key.old) result key.new }
 {
     let summary = size_key(collation, text, entries, pool, presence, ranks);
-    let room = check_room(1, summary, key.len());
-    match room {
-        Check::Passed => {
-            fill_key(collation, text, entries, pool, presence, ranks, key);
-            Preparation::Prepared(summary)
-        }
-        Check::Refused(r) => Preparation::Refused(r),
-    }
+    check_room(1, summary, key.len())?;
+    fill_key(collation, text, entries, pool, presence, ranks, key);
+    Ok(summary)
 }
 
 // Prepares two texts.
@@ -185,11 +160,11 @@ pub fn fill_two(
     ranks: &[u64],
     first_key: &mut [u8],
     second_key: &mut [u8],
-) -> PreparedPair
+) -> Result<(Summary, Summary), Refusal>
     requires first_len_bound { length first.now ≤ text_most }
     requires second_len_bound { length second.now ≤ text_most }
     requires usable_under { UsableUnder collation (table entries.now pool.now) (pages presence.now ranks.now) }
-    ensures { CalledReady pair_outcome prepared_values (two_call (some collation) first.now
+    ensures { CalledReady pair_outcome prepared_values (two_call (Some collation) first.now
         second.now entries.now pool.now presence.now ranks.now
         first_key.old
         second_key.old) result (first_key.new ∷ second_key.new ∷ []) }
@@ -200,12 +175,12 @@ pub fn fill_two(
                 if second.len() < keys::LONG_TEXT {
                     let one = fill_short(first, entries, pool, presence, ranks, first_key);
                     let two = fill_short(second, entries, pool, presence, ranks, second_key);
-                    return PreparedPair::Both(one, two);
+                    return Ok((one, two));
                 }
             }
             let one = fill_unicode(first, entries, pool, presence, ranks, first_key);
             let two = fill_unicode(second, entries, pool, presence, ranks, second_key);
-            return PreparedPair::Both(one, two);
+            return Ok((one, two));
         }
     }
     fill_two_sized(
@@ -224,26 +199,22 @@ fn fill_two_sized(
     ranks: &[u64],
     first_key: &mut [u8],
     second_key: &mut [u8],
-) -> PreparedPair
+) -> Result<(Summary, Summary), Refusal>
     requires first_len_bound { length first.now ≤ text_most }
     requires second_len_bound { length second.now ≤ text_most }
     requires usable_under { UsableUnder collation (table entries.now pool.now) (pages presence.now ranks.now) }
-    ensures { CalledReady pair_outcome prepared_values (two_call (some collation) first.now
+    ensures { CalledReady pair_outcome prepared_values (two_call (Some collation) first.now
         second.now entries.now pool.now presence.now ranks.now
         first_key.old
         second_key.old) result (first_key.new ∷ second_key.new ∷ []) }
 {
     let one = size_key(collation, first, entries, pool, presence, ranks);
     let two = size_key(collation, second, entries, pool, presence, ranks);
-    if let Check::Refused(r) = check_room(1, one, first_key.len()) {
-        return PreparedPair::Refused(r);
-    }
-    if let Check::Refused(r) = check_room(2, two, second_key.len()) {
-        return PreparedPair::Refused(r);
-    }
+    check_room(1, one, first_key.len())?;
+    check_room(2, two, second_key.len())?;
     fill_key(collation, first, entries, pool, presence, ranks, first_key);
     fill_key(
         collation, second, entries, pool, presence, ranks, second_key,
     );
-    PreparedPair::Both(one, two)
+    Ok((one, two))
 }

@@ -20,28 +20,7 @@ pub use checks::{check_call, check_texts};
 pub use filling::fill_two;
 use filling::{fill_one, fill_one_apart};
 use keys::Summary;
-use terms::{Collation, Refusal};
-
-// What preparing a text answers.
-#[derive(Clone, Copy)]
-pub enum Preparation {
-    Prepared(Summary),
-    Refused(Refusal),
-}
-
-// What preparing two texts for a comparison answers.
-#[derive(Clone, Copy)]
-pub enum PreparedPair {
-    Both(Summary, Summary),
-    Refused(Refusal),
-}
-
-// Whether a call passes the checks before any key is looked at, and its collation then.
-#[derive(Clone, Copy)]
-pub enum CallCheck {
-    Passed(Collation),
-    Refused(Refusal),
-}
+use terms::Refusal;
 
 // Prepares a text under a collation: its key is left at the start of the key buffer, if it belongs there.
 pub fn prepare(
@@ -52,19 +31,14 @@ pub fn prepare(
     presence: &mut [u64],
     ranks: &mut [u64],
     key: &mut [u8],
-) -> Preparation
+) -> Result<Summary, Refusal>
     ensures { PreparesPaging (one_call (collation_of collation) text.now entries.now
         pool.now presence.old ranks.old key.old) result key.new
         (pages presence.new ranks.new) }
 {
-    let checked = check_call(collation, text.len(), 0, entries, pool, presence, ranks);
-    match checked {
-        // Beside the check the quick way saves nothing.
-        CallCheck::Passed(known) => fill_one_apart(
-            known, text, entries, pool, presence, ranks, key,
-        ),
-        CallCheck::Refused(r) => Preparation::Refused(r),
-    }
+    let known = check_call(collation, text.len(), 0, entries, pool, presence, ranks)?;
+    // Beside the check the quick way saves nothing.
+    fill_one_apart(known, text, entries, pool, presence, ranks, key)
 }
 
 // As `prepare`, over a table that is accepted already, with its pages.
@@ -76,25 +50,26 @@ pub fn prepare_accepted(
     presence: &[u64],
     ranks: &[u64],
     key: &mut [u8],
-) -> Preparation
+) -> Result<Summary, Refusal>
     requires { UsableBy (collation_of collation) (table entries.now pool.now) (pages presence.now ranks.now) }
     ensures { Prepares (one_call (collation_of collation) text.now entries.now pool.now
         presence.now ranks.now key.old) result key.new }
 {
-    let texts = check_texts(collation, text.len(), 0);
-    match texts {
-        CallCheck::Passed(known) => fill_one(known, text, entries, pool, presence, ranks, key),
-        CallCheck::Refused(r) => Preparation::Refused(r),
-    }
+    let known = check_texts(collation, text.len(), 0)?;
+    fill_one(known, text, entries, pool, presence, ranks, key)
 }
 
 // The key of a text after it was prepared, as a part of the text or of the key buffer; empty on a refusal. Of a preparation
 // of other slices: so many octets of these, and none where there are fewer.
-pub fn shown_key<'a>(text: &'a [u8], key: &'a [u8], preparation: Preparation) -> &'a [u8]
+pub fn shown_key<'a>(
+    text: &'a [u8],
+    key: &'a [u8],
+    preparation: Result<Summary, Refusal>,
+) -> &'a [u8]
     ensures { result.now ≡ shown_key preparation text.now key.now }
 {
     match preparation {
-        Preparation::Prepared(summary) => keys::shown_part(text, key, summary),
-        Preparation::Refused(_) => &text[..0],
+        Ok(summary) => keys::shown_part(text, key, summary),
+        Err(_) => &text[..0],
     }
 }

@@ -4,7 +4,7 @@ use mathlib.Core.Path.{◌≡◌, refl, sym}
 use Prim.Native.Nat.{ℕ, ◌*◌, ◌≤◌, ◌<◌}
 use native.Mathlib.Omega.{arith}
 use mathlib.Core.Bool.{Bool, true, false, cond, not, ◌&&◌, ◌||◌, and-false, true≢false}
-use mathlib.Core.Option.{Option, none, some}
+use Rattle.std.specs.Prelude.{Option, None, Some}
 use lib.Dec.{eqb, leb}
 use borrow.Author.Tests.{leb-true, eqb-true, ne_eqb}
 use Rattle.terms.specs.Collations.{reads_table}
@@ -17,7 +17,7 @@ use Rattle.records.specs.declared.KeyFields.{KeyFields}
 module _ (c : Collation) (f : KeyFields) (n : ℕ) where
   -- the flag is 1
   pub agrees-valid : f.valid ≡ 1
-      → agrees (some c) f n ≡ cond (reads_table c) (leb n (128 * f.text_length)) (eqb n f.text_length)
+      → agrees (Some c) f n ≡ cond (reads_table c) (leb n (128 * f.text_length)) (eqb n f.text_length)
   agrees-valid e = rw e (by-case c)
     where
       by-case : (k : Collation)
@@ -28,15 +28,15 @@ module _ (c : Collation) (f : KeyFields) (n : ℕ) where
       by-case UnicodeCasemap = refl
 
   -- the flag is 0
-  pub agrees-invalid : f.valid ≡ 0 → agrees (some c) f n ≡ reads_table c && eqb n f.text_length
+  pub agrees-invalid : f.valid ≡ 0 → agrees (Some c) f n ≡ reads_table c && eqb n f.text_length
   agrees-invalid e = rw e
 
   -- it is another number
-  pub agrees-neither : (f.valid ≡ 1 → ⊥) → (f.valid ≡ 0 → ⊥) → agrees (some c) f n ≡ false
+  pub agrees-neither : (f.valid ≡ 1 → ⊥) → (f.valid ≡ 0 → ⊥) → agrees (Some c) f n ≡ false
   agrees-neither one zero = rw (ne_eqb f.valid 1 one, ne_eqb f.valid 0 zero)
 
   -- it is not 1, under a collation that doesn't read the table
-  pub agrees-unread : reads_table c ≡ false → (f.valid ≡ 1 → ⊥) → agrees (some c) f n ≡ false
+  pub agrees-unread : reads_table c ≡ false → (f.valid ≡ 1 → ⊥) → agrees (Some c) f n ≡ false
   agrees-unread e one = rw (ne_eqb f.valid 1 one, e, and-false (eqb f.valid 0))
 
 -- ---- how long a key can be
@@ -47,8 +47,8 @@ length_most true n m e = let same : n ≡ m = eqb-true n m e in omega arith
 length_most false n m e = leb-true n (128 * m) e
 
 agrees-most : (o : Option Collation) (f : KeyFields) (n : ℕ) → agrees o f n ≡ true → n ≤ 128 * f.text_length
-agrees-most none f n e = absurd (true≢false (sym e))
-agrees-most (some c) f n e =
+agrees-most None f n e = absurd (true≢false (sym e))
+agrees-most (Some c) f n e =
     length_most (eqb f.valid 0 || not (reads_table c)) n f.text_length
     (both (flag_fits c f.valid) (length_fits c f n) e).1
 
@@ -84,8 +84,8 @@ flag_small c flag e = go (eqb flag 1) refl (eqb flag 0) refl
     go false p false q = absurd (true≢false (sym (rw (p, q) at e)))
 
 agrees-flag : (o : Option Collation) (f : KeyFields) (n : ℕ) → agrees o f n ≡ true → f.valid < 256
-agrees-flag none f n e = absurd (true≢false (sym e))
-agrees-flag (some c) f n e = flag_small c f.valid (both (flag_fits c f.valid) (length_fits c f n) e).0
+agrees-flag None f n e = absurd (true≢false (sym e))
+agrees-flag (Some c) f n e = flag_small c f.valid (both (flag_fits c f.valid) (length_fits c f n) e).0
 
 -- the numbers of a key that fits have one, one and two octets
 pub record Small (f : KeyFields) : Type 0 where

@@ -1,13 +1,13 @@
 -- Numbers in octets, over any width: each of `little_endian` and `number_in` undoes the other.
 -- Assumes nothing.
 use mathlib.Core.Path.{◌≡◌, refl, ap, ap₂, ◌∙◌}
-use Prim.Native.Nat.{ℕ, zero, suc, ◌+◌, ◌-◌, ◌*◌, ◌^◌, ◌≤◌, ◌<◌, ◌%◌, ◌/◌}
+use Prim.Native.Nat.{ℕ, zero, suc, ◌+◌, ◌*◌, ◌^◌, ◌<◌, ◌%◌, ◌/◌}
 use native.Mathlib.Nat.{pow-zero, pow-suc}
-use native.Mathlib.Numerals.{add-one}
 use native.Mathlib.Omega.{arith}
 use mathlib.Core.List.{List, [], ◌∷◌}
 use lib.ListN.{length, get_or, take, drop}
-use lib.Seq.{get_or-drop, drop-cons}
+use lib.Seq.{get_or-drop}
+use Rattle.std.specs.Int.{w16, w32, from_le_bytes, to_le_bytes}
 use Rattle.records.specs.Numbers.{little_endian, number_in, Octets}
 
 -- as long as the width says
@@ -61,24 +61,37 @@ octets-take (suc n) [] octets i = octets i
 octets-take (suc n) (x ∷ xs) octets zero = octets 0
 octets-take (suc n) (x ∷ xs) octets (suc i) = octets-take n xs (λ j. octets (suc j)) i
 
--- one octet more in front
-pub number_in-before : (i : ℕ) (xs : List ℕ) → 0 < i → i ≤ length xs
-    → number_in (drop (i - 1) xs) ≡ get_or xs (i - 1) 0 + 256 * number_in (drop i xs)
+-- two octets
+pub number_in-two : (i : ℕ) (xs : List ℕ) → number_in (take 2 (drop i xs)) ≡ get_or xs i 0 + 256 * get_or xs (suc i) 0
 unfolding number_in
-number_in-before i xs p h =
-    let next : suc (i - 1) ≡ i = omega arith in
-    ap number_in (rw next at (drop-cons xs (i - 1) 0 (omega arith)))
+number_in-two zero [] = refl
+number_in-two (suc i) [] = refl
+number_in-two zero (x ∷ []) = omega arith
+number_in-two zero (x ∷ y ∷ xs) = omega arith
+number_in-two (suc i) (x ∷ xs) = number_in-two i xs
 
--- the octets of a number from a place on: the low one of what is left, and those of the rest
-pub little_endian-next : (width n i left : ℕ) → i < width → drop i (little_endian width n) ≡ little_endian (width - i) left
-    → (get_or (little_endian width n) i 0 ≡ left % 256)
-    × (drop (i + 1) (little_endian width n) ≡ little_endian (width - (i + 1)) (left / 256))
+-- ---- as std reads and writes them
+
+-- four octets
+read-four : (xs : List ℕ) → from_le_bytes w32 (take 4 xs) ≡ number_in (take 4 xs)
+unfolding number_in
+read-four [] = refl
+read-four (a ∷ []) = omega arith
+read-four (a ∷ b ∷ []) = omega arith
+read-four (a ∷ b ∷ c ∷ []) = omega arith
+read-four (a ∷ b ∷ c ∷ d ∷ xs) = omega arith
+
+pub number_in-four : (xs block : List ℕ) (n : ℕ) → block ≡ take 4 xs → n ≡ from_le_bytes w32 block → n ≡ number_in (take 4 xs)
+number_in-four xs block n b e = rw b at e ∙ read-four xs
+
+-- a number in two octets, and in four
+pub le_bytes-two : (n : ℕ) → to_le_bytes w16 n ≡ little_endian 2 n
 unfolding little_endian
-little_endian-next width n i left h e =
-    let more : width - i ≡ suc (width - (i + 1)) = omega arith in
-    let all = little_endian width n in
-    let here : drop i all ≡ get_or all i 0 ∷ drop (i + 1) all =
-    rw (add-one i) (drop-cons all i 0 (omega (arith, length-little_endian width n)))
-    in
-    let rest : drop i all ≡ left % 256 ∷ little_endian (width - (i + 1)) (left / 256) = rw more at e in
-    (cc, cc)
+le_bytes-two n = refl
+
+pub le_bytes-four : (n : ℕ) → to_le_bytes w32 n ≡ little_endian 4 n
+unfolding little_endian
+le_bytes-four n =
+    let two : n / 65536 % 256 ≡ n / 256 / 256 % 256 = omega arith in
+    let three : n / 16777216 % 256 ≡ n / 256 / 256 / 256 % 256 = omega arith in
+    ap₂ (λ (x y : ℕ). n % 256 ∷ n / 256 % 256 ∷ x ∷ y ∷ []) two three

@@ -4,7 +4,7 @@ use mathlib.Core.Path.{◌≡◌, sym, ap, ◌∙◌}
 use Prim.Native.Nat.{ℕ, ◌+◌, ◌-◌, ◌≤◌}
 use native.Mathlib.Omega.{arith}
 use mathlib.Core.List.{List}
-use mathlib.Core.Option.{some}
+use Rattle.std.specs.Prelude.{Some}
 use lib.ListN.{length, take, drop, length-drop}
 use lib.Seq.{drop-drop, take-add, drop_at, length-take-le, slice}
 use Rattle.records.specs.Numbers.{Octets}
@@ -19,7 +19,7 @@ octets_of (of_text t) = t
 octets_of (of_key f k) = k
 
 -- they are the last octets of what follows the length
-held-last : (kind : ℕ) (body : List ℕ) (i : Item) → item_in kind body ≡ some i
+held-last : (kind : ℕ) (body : List ℕ) (i : Item) → item_in kind body ≡ Some i
     → (k : ℕ) × (k ≤ length body) × (octets_of i ≡ drop k body)
 held-last kind body i e =
     item_in-cases kind body i e (λ k s. (0, omega arith, ap octets_of s)) (λ k four s. (4, four, ap octets_of s))

@@ -5,7 +5,7 @@ use Prim.Native.Nat.{ℕ, ◌+◌, ◌-◌, ◌≤◌, ◌<◌}
 use native.Mathlib.Omega.{arith}
 use mathlib.Core.Bool.{true, false, cond}
 use mathlib.Core.List.{List, ◌++◌, append_assoc}
-use mathlib.Core.Option.{some}
+use Rattle.std.specs.Prelude.{Some}
 use lib.ListN.{length, take, drop, length-append, length-drop}
 use lib.Seq.{take_at, drop_at}
 use borrow.Author.Tests.{le-ltb, le-leb, leb-true}
@@ -91,7 +91,7 @@ fields_back f key s =
     (number_in-little_endian 2 f.text_length s.length)
 
 -- an item comes back from its kind and body
-item_back : (i : Item) → fits rules i ≡ true → item_in (kind_of i) (body_of i) ≡ some i
+item_back : (i : Item) → fits rules i ≡ true → item_in (kind_of i) (body_of i) ≡ Some i
 item_back (of_text t) e = refl
 item_back (of_key f k) e =
     let four : 4 ≤ length (field_octets f ++ k) = omega (arith, length-append (field_octets f) k, length-field_octets f) in

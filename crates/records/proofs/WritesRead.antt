@@ -5,7 +5,7 @@ use Prim.Native.Nat.{ℕ, ◌+◌, ◌-◌, ◌≤◌}
 use native.Mathlib.Omega.{arith}
 use mathlib.Core.Bool.{Bool, true, false, ◌&&◌}
 use mathlib.Core.List.{List, [], ◌∷◌, ◌++◌}
-use mathlib.Core.Option.{Option, none, some}
+use Rattle.std.specs.Prelude.{Option, None, Some}
 use lib.Dec.{eqb, leb}
 use lib.ListN.{length, take, drop, take-append-drop}
 use lib.Seq.{length-take-le, take-add}
@@ -26,7 +26,7 @@ use Rattle.records.proofs.Framing.{Whole, short-false, length-following}
 pub record Found (r : Rules) (slice : List ℕ) (p : ℕ) (i : Item) (next : ℕ) : Type 0 where
   pub whole : Whole (drop p slice)
   pub known : among (kind_in (following (drop p slice))) r.kinds ≡ true
-  pub held : item_in (kind_in (following (drop p slice))) (body_in (following (drop p slice))) ≡ some i
+  pub held : item_in (kind_in (following (drop p slice))) (body_in (following (drop p slice))) ≡ Some i
   pub fit : fits r i ≡ true
   pub after : next ≡ p + 4 + said_length (drop p slice)
 
@@ -38,15 +38,15 @@ stopped-item : {A : Type 0} {x : Refusal} {i : Item} {n : ℕ} → stopped x ≡
 stopped-item e = absurd (let z : ◌≡◌ {A = ℕ} 0 1 = cc in omega arith)
 
 judged-item : (r : Rules) (m : ℕ) (o : Option Item) (i : Item) (n : ℕ) → judged r m o ≡ item i n
-    → (o ≡ some i) × (fits r i ≡ true) × (n ≡ m)
-judged-item r m none i n e = stopped-item e
-judged-item r m (some j) i n e = go (fits r j) refl
+    → (o ≡ Some i) × (fits r i ≡ true) × (n ≡ m)
+judged-item r m None i n e = stopped-item e
+judged-item r m (Some j) i n e = go (fits r j) refl
   where
-    go : (b : Bool) → fits r j ≡ b → (some j ≡ some i) × (fits r i ≡ true) × (n ≡ m)
+    go : (b : Bool) → fits r j ≡ b → (Some j ≡ Some i) × (fits r i ≡ true) × (n ≡ m)
     go true f =
         let same : item j m ≡ item i n = rw f at e in
         let is : j ≡ i = cc in
-        (ap some is, rw is at f, cc)
+        (ap Some is, rw is at f, cc)
     go false f = stopped-item (rw f at e)
 
 following-item : (r : Rules) (m : ℕ) (octets : List ℕ) (i : Item) (n : ℕ) → read_following r m octets ≡ item i n
@@ -102,7 +102,7 @@ fields-again (a ∷ b ∷ c ∷ d ∷ key) h octets =
       little_endian-number_in (c ∷ d ∷ []) (octets-take 2 (c ∷ d ∷ key) (octets-drop 2 (a ∷ b ∷ c ∷ d ∷ key) octets)),
     )
 
-module _ (kind : ℕ) (body : List ℕ) (i : Item) (e : item_in kind body ≡ some i) where
+module _ (kind : ℕ) (body : List ℕ) (i : Item) (e : item_in kind body ≡ Some i) where
   -- a text, or a key of at least four octets
   pub item_in-cases : {A : Type 0}
       → (kind ≡ 1 → i ≡ of_text body → A)
@@ -112,10 +112,10 @@ module _ (kind : ℕ) (body : List ℕ) (i : Item) (e : item_in kind body ≡ so
     where
       go : (a : Bool) → eqb kind 1 ≡ a → (b : Bool) → eqb kind 2 && leb 4 (length body) ≡ b → A
       go true f b g =
-          let same : some (of_text body) ≡ some i = rw f at e in
+          let same : Some (of_text body) ≡ Some i = rw f at e in
           text (eqb-true kind 1 f) (cc)
       go false f true g =
-          let same : some (of_key (fields_in body) (drop 4 body)) ≡ some i = rw (f, g) at e in
+          let same : Some (of_key (fields_in body) (drop 4 body)) ≡ Some i = rw (f, g) at e in
           let each = both (eqb kind 2) (leb 4 (length body)) g in
           key (eqb-true kind 2 each.0) (leb-true 4 (length body) each.1) (cc)
       go false f false g = absurd (none-some i (rw (f, g) at e))

@@ -3,7 +3,7 @@
 -- `rules`, whose text lengths have two octets.
 -- Assumes nothing.
 use Rattle.std.specs.Prelude.{ℕ, ◌*◌, Bool, false, cond, ◌&&◌, ◌||◌, not, List, [], ◌∷◌, ◌++◌, eqb, leb, length}
-use Rattle.std.proofs.Math.Option.{Option, none, some}
+use Rattle.std.specs.Prelude.{Option, None, Some}
 use Rattle.terms.specs.Collations.{collation_of, reads_table}
 use Rattle.terms.specs.Refusals.{text_most, expansion_most}
 use Rattle.terms.specs.declared.Collation.{Collation}
@@ -55,8 +55,8 @@ length_fits c f n =
 
 -- collation, flag and lengths are as above
 abbrev pub agrees : Option Collation → KeyFields → ℕ → Bool
-agrees none f n = false
-agrees (some c) f n = flag_fits c f.valid && length_fits c f n
+agrees None f n = false
+agrees (Some c) f n = flag_fits c f.valid && length_fits c f n
 
 -- a key of n octets with these fields can stand in a record
 abbrev pub key_fits : Rules → KeyFields → ℕ → Bool

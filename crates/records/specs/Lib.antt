@@ -1,4 +1,5 @@
 pub mod Numbers
+pub mod Kinds
 pub mod Items
 pub mod Reading
 pub mod Writing

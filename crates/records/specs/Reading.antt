@@ -1,14 +1,14 @@
 -- Reading the record at a position of a slice (document 02, request 2): the end, a refusal, or an item and the next position.
 -- Assumes nothing.
 use Rattle.std.specs.Prelude.{ℕ, ◌+◌, ◌-◌, Bool, cond, ◌&&◌, ◌||◌, List, [], ◌∷◌, eqb, leb, ltb, length, take, drop, replicate}
-use Rattle.std.proofs.Math.Option.{Option, none, some}
-use Rattle.terms.specs.Refusals.{refusal, Outcome, refused, gives}
+use Rattle.std.specs.Prelude.{Option, None, Some, Result}
+use Rattle.terms.specs.Refusals.{refusal, Outcome, outcome, refused, gives}
 use Rattle.terms.specs.declared.Refusal.{Refusal}
 use Rattle.records.specs.Numbers.{number_in}
 use Rattle.records.specs.Items.{Rules, Item, of_text, of_key, among, fits}
 use Rattle.records.specs.declared.KeyFields.{KeyFields}
 use Rattle.records.specs.declared.Record.{Record}
-use Rattle.records.specs.declared.Record.TheVariants.{End, Text, Key, Refused}
+use Rattle.records.specs.declared.Record.TheVariants.{End, Text, Key}
 
 -- what reading gives
 pub data Reading : Type 0 where
@@ -55,15 +55,15 @@ fields_in body = record {
 abbrev pub item_in : ℕ → List ℕ → Option Item
 item_in kind body =
     cond (eqb kind 1)
-    (some (of_text body))
-    (cond (eqb kind 2 && leb 4 (length body)) (some (of_key (fields_in body) (drop 4 body))) none)
+    (Some (of_text body))
+    (cond (eqb kind 2 && leb 4 (length body)) (Some (of_key (fields_in body) (drop 4 body))) None)
 
 -- ---- reading
 
 -- 13, or the item with the next position
 abbrev pub judged : Rules → ℕ → Option Item → Reading
-judged r next none = stopped (refusal 13 0 0)
-judged r next (some i) = cond (fits r i) (item i next) (stopped (refusal 13 0 0))
+judged r next None = stopped (refusal 13 0 0)
+judged r next (Some i) = cond (fits r i) (item i next) (stopped (refusal 13 0 0))
 
 -- 12, "kind unknown", and else 13 or the item, of what follows the length
 unfoldable pub read_following : Rules → ℕ → List ℕ → Reading
@@ -93,8 +93,10 @@ reading_outcome (item (of_key f k) next) =
     gives (2 ∷ f.collation ∷ f.valid ∷ f.text_length ∷ (next - length k) ∷ next ∷ [])
 
 -- the same of what `read_record` answers
-abbrev pub record_outcome : Record → Outcome
-record_outcome End = gives (replicate 6 0)
-record_outcome (Text start stop) = gives (1 ∷ 0 ∷ 0 ∷ 0 ∷ start.0 ∷ stop.0 ∷ [])
-record_outcome (Key f start stop) = gives (2 ∷ f.collation ∷ f.valid ∷ f.text_length ∷ start.0 ∷ stop.0 ∷ [])
-record_outcome (Refused x) = refused x
+abbrev pub record_values : Record → List ℕ
+record_values End = replicate 6 0
+record_values (Text start stop) = 1 ∷ 0 ∷ 0 ∷ 0 ∷ start.0 ∷ stop.0 ∷ []
+record_values (Key f start stop) = 2 ∷ f.collation ∷ f.valid ∷ f.text_length ∷ start.0 ∷ stop.0 ∷ []
+
+abbrev pub record_outcome : Result Record Refusal → Outcome
+record_outcome r = outcome record_values r

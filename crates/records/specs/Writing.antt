@@ -1,13 +1,12 @@
 -- Writing an item's record at a position of a slice (document 02, request 2).
 -- Assumes nothing.
 use Rattle.std.specs.Prelude.{◌≡◌, ℕ, ◌+◌, ◌-◌, not, List, [], ◌∷◌, ltb, length}
-use Rattle.std.proofs.Math.Option.{Option, none, some}
+use Rattle.std.specs.Prelude.{Option, None, Some, Result}
 use Rattle.terms.specs.Lists.{put_at}
-use Rattle.terms.specs.Refusals.{check, first, answer, Outcome, refused, gives}
+use Rattle.terms.specs.Refusals.{check, first, answer, Outcome, outcome}
 use Rattle.terms.specs.declared.Refusal.{Refusal}
 use Rattle.records.specs.Items.{Rules, rules, Item, fits, record_of}
-use Rattle.records.specs.declared.Written.{Written}
-use Rattle.records.specs.declared.Written.TheVariants.{Upto, Refused}
+use Rattle.terms.specs.declared.RecordPosition.{RecordPosition}
 
 -- "8 no room (detail the whole record)": octets in the slice from the position on, none where it is past the end
 abbrev pub room_checks : List ℕ → ℕ → ℕ → List (Option Refusal)
@@ -23,8 +22,8 @@ writing_refusal i p n = first (writing_checks rules i p n)
 
 -- octets put at a position, unless that is refused
 abbrev pub put_unless : Option Refusal → List ℕ → ℕ → List ℕ → List ℕ
-put_unless none octets p slice = put_at p octets slice
-put_unless (some x) octets p slice = slice
+put_unless None octets p slice = put_at p octets slice
+put_unless (Some x) octets p slice = slice
 
 -- what writing answers: a refusal, or the position after the record
 abbrev pub writing_answer : Item → ℕ → List ℕ → Outcome
@@ -35,15 +34,14 @@ abbrev pub writing_leaves : Item → ℕ → List ℕ → List ℕ
 writing_leaves i p slice = put_unless (writing_refusal i p (length slice)) (record_of i) p slice
 
 -- the answer in the paper's numbers
-abbrev pub written_outcome : Written → Outcome
-written_outcome (Upto p) = gives (p.0 ∷ [])
-written_outcome (Refused x) = refused x
+abbrev pub written_outcome : Result RecordPosition Refusal → Outcome
+written_outcome r = outcome (λ p. p.0 ∷ []) r
 
 -- octets were put at a position unless x refuses it: the answer, and the whole slice
-pub record PutsAt (x : Option Refusal) (octets : List ℕ) (p : ℕ) (slice : List ℕ) (r : Written) (after : List ℕ) : Type 0 where
+pub record PutsAt (x : Option Refusal) (octets : List ℕ) (p : ℕ) (slice : List ℕ) (r : Result RecordPosition Refusal) (after : List ℕ) : Type 0 where
   pub answered : written_outcome r ≡ answer x ((p + length octets) ∷ [])
   pub left : after ≡ put_unless x octets p slice
 
 -- an item's record was written at a position, unless it is refused
-abbrev pub Writes : Item → ℕ → List ℕ → Written → List ℕ → Type 0
+abbrev pub Writes : Item → ℕ → List ℕ → Result RecordPosition Refusal → List ℕ → Type 0
 Writes i p slice r after = PutsAt (writing_refusal i p (length slice)) (record_of i) p slice r after

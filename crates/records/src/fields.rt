@@ -1,13 +1,12 @@
 // What a record says of a key, before its octets: collation, flag and text length.
 ghost use Rattle.std.specs.Prelude.{◌≡◌, ◌≤◌, length};
-ghost use Rattle.std.proofs.Math.Option.{some};
+ghost use Rattle.std.specs.Prelude.{Some};
 ghost use Rattle.terms.specs.Refusals.{text_most};
 ghost use Rattle.records.specs.Items.{rules, agrees, key_fits, field_octets};
 ghost use Rattle.records.specs.Reading.{fields_in};
 
 use super::KeyFields;
-use super::numbers::number_of;
-use terms::{Collation, CollationName};
+use terms::Collation;
 
 // Whether a key of n octets with these fields can stand in a record.
 pub fn key_fits(fields: KeyFields, n: usize) -> bool
@@ -16,33 +15,23 @@ pub fn key_fits(fields: KeyFields, n: usize) -> bool
     if terms::TEXT_MOST < fields.text_length {
         return false;
     }
-    let named = terms::collation_of(fields.collation);
-    match named {
-        CollationName::Known(collation) => agree(collation, fields, n),
-        CollationName::Unknown => false,
+    match terms::collation_of(fields.collation) {
+        Some(collation) => agree(collation, fields, n),
+        None => false,
     }
 }
 
 // Whether flag and lengths are as the collation has them.
 fn agree(collation: Collation, fields: KeyFields, n: usize) -> bool
     requires { fields.text_length ≤ text_most }
-    ensures { result ≡ agrees (some collation) fields n }
+    ensures { result ≡ agrees (Some collation) fields n }
 {
-    let valid = fields.valid;
-    let text_length = fields.text_length;
-    if terms::reads_table(collation) {
-        if valid == 1 {
-            return n <= terms::EXPANSION_MOST * text_length;
-        }
-        if valid == 0 {
-            return n == text_length;
-        }
-        return false;
+    match fields.valid {
+        0 => terms::reads_table(collation) && n == fields.text_length,
+        1 if terms::reads_table(collation) => n <= terms::EXPANSION_MOST * fields.text_length,
+        1 => n == fields.text_length,
+        _ => false,
     }
-    if valid == 1 {
-        return n == text_length;
-    }
-    false
 }
 
 // The fields that the body of a key begins with.
@@ -50,11 +39,10 @@ pub fn read_fields(body: &[u8]) -> KeyFields
     requires { 4 ≤ length body.now }
     ensures { result ≡ fields_in body.now }
 {
-    let text_length = number_of(&body[2..4]);
     KeyFields {
         collation: body[0] as u32,
         valid: body[1] as u64,
-        text_length,
+        text_length: u16::from_le_bytes([body[2], body[3]]) as usize,
     }
 }
 

@@ -6,7 +6,7 @@ use Prim.Native.Nat.{ℕ, zero, suc, pred, ◌+◌, ◌-◌, ◌≤◌, ◌<◌}
 use native.Mathlib.Decide.{dec_lt}
 use native.Mathlib.Nat.{zero-add}
 use native.Mathlib.Omega.{arith}
-use mathlib.Core.Option.{some}
+use Rattle.std.specs.Prelude.{Some}
 use mathlib.Core.List.{List, [], ◌∷◌}
 use lib.ListN.{length, take}
 use lib.Seq.{take-nil}
@@ -16,7 +16,7 @@ use Rattle.utf8.specs.Characters.{Character}
 use Rattle.decompose.specs.Steps.{steps_key}
 use Rattle.occurrence.specs.Occurrence.{occurrence}
 use Rattle.occurrence.proofs.Laws.{occurrence-within}
-use Rattle.search.specs.Covering.{Span, span, holder, from_to, covering, text_at, key_at, Covers}
+use Rattle.search.specs.Covering.{span, holder, from_to, covering, text_at, key_at, Covers}
 use Rattle.search.proofs.Holders.{size, length-key, holder-here, holder-later}
 
 -- ---- places grow
@@ -58,7 +58,7 @@ key_at-mono m (ch ∷ chs) (suc i) (suc j) h =
 record HeldBy (m : Mapping) (chs : List Character) (at k : ℕ) : Type 0 where
   index : ℕ
   below : index < length chs
-  place : holder m at k chs ≡ some (span (at + text_at chs index) (at + text_at chs (suc index)))
+  place : holder m at k chs ≡ Some (span (at + text_at chs index) (at + text_at chs (suc index)))
   from : key_at m chs index ≤ k
   upto : k < key_at m chs (suc index)
 
@@ -167,7 +167,7 @@ module _ (m : Mapping) (chs : List Character) (s e : ℕ) (h : s < e) (within : 
 
 -- what is not empty is found in the key of characters that are there, first at octet i
 module _ (m : Mapping) (needle : List ℕ) (chs : List Character) (i : ℕ) (some-sought : 0 < length needle)
-    (found : occurrence needle (steps_key m chs) ≡ some i) where
+    (found : occurrence needle (steps_key m chs) ≡ Some i) where
   within-key : i + length needle ≤ length (steps_key m chs)
   within-key = occurrence-within needle (steps_key m chs) i found
 

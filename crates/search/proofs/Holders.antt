@@ -5,7 +5,7 @@ use mathlib.Core.Path.{◌≡◌, refl, sym, ap, ◌∙◌}
 use Prim.Native.Nat.{ℕ, ◌+◌, ◌-◌, ◌≤◌, ◌<◌}
 use native.Mathlib.Omega.{arith}
 use mathlib.Core.Bool.{true}
-use mathlib.Core.Option.{Option, none, some}
+use Rattle.std.specs.Prelude.{Option, None, Some}
 use mathlib.Core.List.{List, ◌∷◌}
 use lib.ListN.{length, drop, length-append}
 use borrow.Author.Tests.{lt-ltb, le-ltb}
@@ -30,7 +30,7 @@ module _ (m : Mapping) (ch : Character) (chs : List Character) where
   length-key = length-append (expanded m ch.code) (steps_key m chs)
 
   -- an octet of the first character
-  pub holder-here : (at k : ℕ) → k < size m ch → holder m at k (ch ∷ chs) ≡ some (span at (at + ch.width))
+  pub holder-here : (at k : ℕ) → k < size m ch → holder m at k (ch ∷ chs) ≡ Some (span at (at + ch.width))
   unfolding holder
   holder-here at k h = rw (lt-ltb k (size m ch) h)
 
@@ -56,8 +56,8 @@ abbrev characters_from : Decoder → List ℕ → ℕ → List Character
 characters_from decode t at = listed (characters_by decode (drop at t))
 
 listed-prepend : (ch : Character) (o : Option (List Character)) → there o ≡ true → listed (prepend ch o) ≡ ch ∷ listed o
-listed-prepend ch none e = let z : ◌≡◌ {A = ℕ} 0 1 = cc in absurd (omega arith)
-listed-prepend ch (some chs) e = refl
+listed-prepend ch None e = let z : ◌≡◌ {A = ℕ} 0 1 = cc in absurd (omega arith)
+listed-prepend ch (Some chs) e = refl
 
 -- octet k from one place on is octet `left` from a later one on, where characters are that have more octets
 pub record Walking (decode : Decoder) (m : Mapping) (t : List ℕ) (from k at left : ℕ) : Type 0 where
@@ -72,7 +72,7 @@ walking_start decode m t from k h = record { has-octet = h; place = refl; offset
 
 module _ {decode : Decoder} (d : Decodes decode) {m : Mapping} {t : List ℕ} {from k at left : ℕ}
     (w : Walking decode m t from k at left) where
-  module _ (ch : Character) (e : decode (drop at t) ≡ some ch) where
+  module _ (ch : Character) (e : decode (drop at t) ≡ Some ch) where
     abbrev rest : List Character
     rest = characters_from decode t (at + ch.width)
 

@@ -6,7 +6,7 @@ use Prim.Native.Nat.{ℕ, ◌+◌, ◌-◌, ◌≤◌, ◌<◌, pred}
 use native.Mathlib.Decide.{dec_lt}
 use native.Mathlib.Omega.{arith}
 use mathlib.Core.Bool.{true}
-use mathlib.Core.Option.{Option, none, some}
+use Rattle.std.specs.Prelude.{Option, None, Some}
 use mathlib.Core.List.{List, [], ◌∷◌}
 use lib.ListN.{length, drop}
 use lib.Seq.{drop-drop}
@@ -37,7 +37,7 @@ offset-most m k (ch ∷ chs) = go (dec_lt k (size m ch)) (offset-most m (k - siz
 -- a later octet from a place on, and the length of the key there, seen from the place of octet k's character
 pub record Resumed (decode : Decoder) (m : Mapping) (t : List ℕ) (at k a : ℕ) (chs : List Character) : Type 0 where
   pub rest : List Character
-  pub there : characters_by decode (drop a t) ≡ some rest
+  pub there : characters_by decode (drop a t) ≡ Some rest
   pub later : (j : ℕ) → holder m at (k + j) chs ≡ holder m a (offset_of m k chs + j) rest
   pub octets : length (steps_key m chs) + offset_of m k chs ≡ k + length (steps_key m rest)
 
@@ -45,7 +45,7 @@ pub record Resumed (decode : Decoder) (m : Mapping) (t : List ℕ) (at k a : ℕ
 resumed-here : (decode : Decoder) (m : Mapping) (t : List ℕ) (at k a : ℕ) (ch : Character) (chs : List Character)
     → k < size m ch
     → at ≡ a
-    → characters_by decode (drop at t) ≡ some (ch ∷ chs)
+    → characters_by decode (drop at t) ≡ Some (ch ∷ chs)
     → Resumed decode m t at k a (ch ∷ chs)
 resumed-here decode m t at k a ch chs h is e =
     let first = offset-here m ch chs k h in
@@ -74,24 +74,24 @@ resumed-later decode m t at k a ch chs h r =
 
 -- the walk may go on from the character that was found
 pub resume : {decode : Decoder} (d : Decodes decode) (m : Mapping) (t : List ℕ) (chs : List Character) (at k a b : ℕ)
-    → characters_by decode (drop at t) ≡ some chs
-    → holder m at k chs ≡ some (span a b)
+    → characters_by decode (drop at t) ≡ Some chs
+    → holder m at k chs ≡ Some (span a b)
     → Resumed decode m t at k a chs
 unfolding holder
 resume d m t [] at k a b e found = absurd (none-some (span a b) found)
 resume {decode} d m t (ch ∷ chs) at k a b e found =
     go (dec_lt k (size m ch)) (resume d m t chs (at + ch.width) (k - size m ch) a b)
   where
-    next : characters_by decode (drop (at + ch.width) t) ≡ some chs
+    next : characters_by decode (drop (at + ch.width) t) ≡ Some chs
     next = rw (← drop-drop ch.width at t) (characters-cons d (drop at t) ch chs e).1
 
     go : Dec (k < size m ch)
-        → (characters_by decode (drop (at + ch.width) t) ≡ some chs
-        → holder m (at + ch.width) (k - size m ch) chs ≡ some (span a b)
+        → (characters_by decode (drop (at + ch.width) t) ≡ Some chs
+        → holder m (at + ch.width) (k - size m ch) chs ≡ Some (span a b)
         → Resumed decode m t (at + ch.width) (k - size m ch) a chs)
         → Resumed decode m t at k a (ch ∷ chs)
     go (yes h) on =
-        let here : some (span at (at + ch.width)) ≡ some (span a b) = sym (holder-here m ch chs at k h) ∙ found in
+        let here : Some (span at (at + ch.width)) ≡ Some (span a b) = sym (holder-here m ch chs at k h) ∙ found in
         let same : span at (at + ch.width) ≡ span a b = cc in
         resumed-here decode m t at k a ch chs h (ap (λ (s : Span). s.start) same) e
     go (no h) on =
@@ -101,9 +101,9 @@ resume {decode} d m t (ch ∷ chs) at k a b e found =
 -- ---- the covering run
 
 -- what is there
-listed-there : (o : Option (List Character)) → there o ≡ true → o ≡ some (listed o)
-listed-there none e = let z : ◌≡◌ {A = ℕ} 0 1 = cc in absurd (omega arith)
-listed-there (some chs) e = refl
+listed-there : (o : Option (List Character)) → there o ≡ true → o ≡ Some (listed o)
+listed-there None e = let z : ◌≡◌ {A = ℕ} 0 1 = cc in absurd (omega arith)
+listed-there (Some chs) e = refl
 
 module _ {decode : Decoder} (d : Decodes decode) {m : Mapping} (t : List ℕ) {s e : ℕ}
     (w : Within m (characters_by decode t) s e) where
@@ -114,7 +114,7 @@ module _ {decode : Decoder} (d : Decodes decode) {m : Mapping} (t : List ℕ) {s
   abbrev chs : List Character
   chs = listed (characters_by decode t)
 
-  all : characters_by decode t ≡ some chs
+  all : characters_by decode t ≡ Some chs
   all = listed-there (characters_by decode t) w.valid
 
   module _ {first : Holder} (h : HolderFound m (characters_by decode t) 0 s first) where
@@ -140,7 +140,7 @@ module _ {decode : Decoder} (d : Decodes decode) {m : Mapping} (t : List ℕ) {s
     run-covers {last} l =
         let r = resumed in
         let further : s + (e - 1 - s) ≡ pred e = omega (arith, w.some) in
-        let found : some (span last.start.0 last.end.0) ≡ holder m 0 (pred e) chs =
+        let found : Some (span last.start.0 last.end.0) ≡ holder m 0 (pred e) chs =
         l.place
         ∙ ap₂ (holder m first.start.0) (ap (λ n. n + (e - 1 - s)) h.offset) (ap listed r.there)
         ∙ sym (r.later (e - 1 - s))

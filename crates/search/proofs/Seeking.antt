@@ -5,12 +5,12 @@ use mathlib.Core.Path.{◌≡◌, refl, sym, ap, ◌∙◌}
 use Prim.Native.Nat.{ℕ, ◌+◌, ◌≤◌, ◌<◌}
 use native.Mathlib.Omega.{arith}
 use mathlib.Core.Bool.{Bool, true, false, true≢false}
-use mathlib.Core.Option.{Option, none, some}
+use Rattle.std.specs.Prelude.{Option, None, Some, Ok}
 use mathlib.Core.List.{List, [], ◌∷◌}
 use lib.ListN.{length, length-append, length-map}
 use Rattle.terms.specs.Collations.{reads_table}
 use Rattle.terms.specs.Lists.{empty, there, each}
-use Rattle.terms.specs.Refusals.{levels_most, gives}
+use Rattle.terms.specs.Refusals.{levels_most}
 use Rattle.terms.specs.declared.Collation.{Collation}
 use Rattle.terms.specs.declared.Collation.TheVariants.{Octet, AsciiCasemap, UnicodeCasemap}
 use Rattle.terms.specs.declared.Refusal.{Refusal}
@@ -26,16 +26,14 @@ use Rattle.keys.specs.Keys.{upper, unicode_prepared, prepared, key_of}
 use Rattle.keys.specs.declared.Summary.{Summary}
 use Rattle.pages.specs.Pages.{Pages}
 use Rattle.prepare.specs.Calls.{Lent, call, Answers}
-use Rattle.prepare.specs.Preparing.{prepared_values, pair_outcome}
-use Rattle.prepare.specs.declared.PreparedPair.{PreparedPair}
-use Rattle.prepare.specs.declared.PreparedPair.TheVariants.{Both}
-use Rattle.prepare.proofs.Shown.{shown-both, both-unrefused}
+use Rattle.prepare.specs.Preparing.{PreparedPair, prepared_values, pair_outcome}
+use Rattle.prepare.proofs.Shown.{shown-both}
 use Rattle.occurrence.specs.Occurrence.{occurrence}
 use Rattle.occurrence.proofs.Laws.{occurrence-within}
 use Rattle.search.specs.Covering.{Span, span}
-use Rattle.search.specs.Substring.{substring_outcome, run_in, text_run, found_values, substring_values, sought_values}
+use Rattle.search.specs.Substring.{hit_numbers, run_in, text_run, found_values, substring_values}
 use Rattle.search.specs.Promises.{listed, Within, Hits, Seekable, Shows}
-use Rattle.search.specs.declared.Sought.{Sought}
+use Rattle.search.specs.declared.Hit.{Hit}
 use Rattle.search.proofs.Holders.{size, length-key}
 
 -- ---- a key is empty only where its text is
@@ -55,9 +53,9 @@ unfolding each
 unicode-some m t h = go (characters t) refl
   where
     go : (o : Option (List Character)) → characters t ≡ o → 0 < length (unicode_prepared m t o).key
-    go none e = h
-    go (some []) e = absurd (omega (arith, ap length (characters-empty utf8-decodes t e)))
-    go (some (ch ∷ chs)) e = omega (arith, size-some m ch, length-key m ch chs)
+    go None e = h
+    go (Some []) e = absurd (omega (arith, ap length (characters-empty utf8-decodes t e)))
+    go (Some (ch ∷ chs)) e = omega (arith, size-some m ch, length-key m ch chs)
 
 -- a text that is not empty has a key that is not
 pub key-some : (k : Collation) (m : Mapping) (t : List ℕ) → 0 < length t → 0 < length (key_of k m t)
@@ -68,17 +66,17 @@ key-some UnicodeCasemap m t h = unicode-some m t h
 -- ---- a hit
 
 valid-there : (m : Mapping) (t : List ℕ) (o : Option (List Character)) → (unicode_prepared m t o).valid ≡ there o
-valid-there m t none = refl
-valid-there m t (some chs) = refl
+valid-there m t None = refl
+valid-there m t (Some chs) = refl
 
 key-there : (m : Mapping) (t : List ℕ) (o : Option (List Character)) → there o ≡ true
     → (unicode_prepared m t o).key ≡ steps_key m (listed o)
-key-there m t none e = cc
-key-there m t (some chs) e = refl
+key-there m t None e = cc
+key-there m t (Some chs) e = refl
 
 run-nowhere : (m : Mapping) (o : Option (List Character)) (s : Span) → there o ≡ false → s ≡ run_in m o s
-run-nowhere m none s e = refl
-run-nowhere m (some chs) s e = let z : ◌≡◌ {A = ℕ} 0 1 = cc in absurd (omega arith)
+run-nowhere m None s e = refl
+run-nowhere m (Some chs) s e = let z : ◌≡◌ {A = ℕ} 0 1 = cc in absurd (omega arith)
 
 module _ (k : Collation) (m : Mapping) (t : List ℕ) (valid : Bool) (s e : ℕ) (h : Hits k m t valid s e)
     (reads : reads_table k ≡ true) where
@@ -122,7 +120,7 @@ text_run-other UnicodeCasemap m t s r = absurd (true≢false r)
 
 -- where the needle is found, the key has that part
 pub found-hits : {k : Collation} {m : Mapping} {needle hay t : List ℕ} {valid : Bool} → Seekable k m needle hay t valid → (i : ℕ)
-    → occurrence needle hay ≡ some i
+    → occurrence needle hay ≡ Some i
     → Hits k m t valid i (i + length needle)
 found-hits {needle} {hay} h i e = record {
   told = h.told;
@@ -144,10 +142,10 @@ unfolding substring_values
 values-empty k m s t e = rw (empty-zero s e)
 
 -- any other: what is found of its key in the second's
-pub values-found : (k : Collation) (m : Mapping) (s t needle hay : List ℕ) (r : Sought) → (length s ≡ 0 → ⊥)
+pub values-found : (k : Collation) (m : Mapping) (s t needle hay : List ℕ) (r : Option Hit) → (length s ≡ 0 → ⊥)
     → needle ≡ key_of k m s → hay ≡ key_of k m t
-    → substring_outcome r ≡ gives (found_values k m t (length needle) (occurrence needle hay))
-    → substring_outcome r ≡ gives (substring_values k m s t)
+    → hit_numbers r ≡ found_values k m t (length needle) (occurrence needle hay)
+    → hit_numbers r ≡ substring_values k m s t
 unfolding substring_values
 values-found k m s t needle hay r h a b e = rw (empty-some s h, ← a, ← b) e
 
@@ -163,13 +161,8 @@ shows-seekable {k} {m} {s} h full-text a b = record { some = rw a (key-some k m 
 
 module _ {k : Collation} {t : Table} {g : Pages} {l n : Lent} {x : Option Refusal} {r : PreparedPair} {sAfter tAfter : List ℕ}
     {one two : Summary}
-    (h : Answers pair_outcome prepared_values x (call (some k) t g (l ∷ n ∷ [])) r (sAfter ∷ tAfter ∷ []))
-    (e : r ≡ Both one two) where
+    (h : Answers pair_outcome prepared_values x (call (Some k) t g (l ∷ n ∷ [])) r (sAfter ∷ tAfter ∷ []))
+    (e : r ≡ Ok (one, two)) where
   -- texts that were prepared show their keys
   pub both-shows : Shows k (mapping_of t) l.text sAfter one n.text tAfter two
   both-shows = let shown = shown-both h e in record { first = shown.first; second = shown.second; told = shown.valid }
-
-  -- what was sought in their keys is the call's answer
-  pub seeks-shown : {q : Sought} → substring_outcome q ≡ gives (substring_values k (mapping_of t) l.text n.text)
-      → Answers substring_outcome sought_values x (call (some k) t g (l ∷ n ∷ [])) q (sAfter ∷ tAfter ∷ [])
-  seeks-shown told = record { answered = rw (told, both-unrefused h e); left = h.left }

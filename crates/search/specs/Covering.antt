@@ -2,7 +2,7 @@
 -- "from the start of the character whose expansion holds the first matched octet to the end of the one that holds the last"
 -- Assumes nothing.
 use Rattle.std.specs.Prelude.{◌≡◌, ℕ, ◌+◌, ◌-◌, pred, ◌≤◌, ◌<◌, cond, List, [], ◌∷◌, ltb, length, take}
-use Rattle.std.proofs.Math.Option.{Option, none, some}
+use Rattle.std.specs.Prelude.{Option, None, Some}
 use Rattle.terms.specs.Lists.{total}
 use Rattle.table.specs.Mapping.{Mapping}
 use Rattle.utf8.specs.Utf8.{Character}
@@ -19,18 +19,18 @@ span s e = record { start = s; end = e }
 
 -- the place in the text, counted on from `at`, of the character whose expansion holds octet k of the key
 unfoldable pub holder : Mapping → ℕ → ℕ → List Character → Option Span
-holder m at k [] = none
+holder m at k [] = None
 holder m at k (ch ∷ chs) =
     cond (ltb k (length (expanded m ch.code)))
-    (some (span at (at + ch.width)))
+    (Some (span at (at + ch.width)))
     (holder m (at + ch.width) (k - length (expanded m ch.code)) chs)
 
 -- from the start of one character's place to the end of another's; 0 to 0 where a character is missing
 -- (for a hit none is: `covering-covers` and `hit-covers` of proofs/Cover.antt name both)
 abbrev pub from_to : Option Span → Option Span → Span
-from_to none b = span 0 0
-from_to (some a) none = span 0 0
-from_to (some a) (some b) = span a.start b.end
+from_to None b = span 0 0
+from_to (Some a) None = span 0 0
+from_to (Some a) (Some b) = span a.start b.end
 
 -- the run of whole characters that covers the part of the key from s up to e, where s is below e
 unfoldable pub covering : Mapping → List Character → Span → Span

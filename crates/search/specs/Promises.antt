@@ -1,7 +1,7 @@
 -- What the contracts of the crate say with the definitions of the other files.
 -- Assumes nothing.
 use Rattle.std.specs.Prelude.{◌≡◌, ℕ, ◌-◌, ◌≤◌, ◌<◌, Bool, true, cond, List, [], ◌∷◌, ltb, length}
-use Rattle.std.proofs.Math.Option.{Option, none, some}
+use Rattle.std.specs.Prelude.{Option, None, Some}
 use Rattle.terms.specs.Lists.{there}
 use Rattle.table.specs.Mapping.{Mapping}
 use Rattle.utf8.specs.Characters.{Character}
@@ -18,8 +18,8 @@ use Rattle.search.specs.declared.covering.Holder.{Holder}
 
 -- the characters that are there, none where the text is not valid
 abbrev pub listed : Option (List Character) → List Character
-listed none = []
-listed (some chs) = chs
+listed None = []
+listed (Some chs) = chs
 
 -- which octet of its character's expansion octet k of a key is
 unfoldable pub offset_of : Mapping → ℕ → List Character → ℕ
@@ -40,7 +40,7 @@ holding s e o = record { start = record { 0 = s }; end = record { 0 = e }; offse
 
 -- of characters from a place on, the one that holds octet k of their key was found: its place, and which octet it is
 pub record HolderFound (m : Mapping) (chs : Option (List Character)) (from k : ℕ) (r : Holder) : Type 0 where
-  pub place : some (span r.start.0 r.end.0) ≡ holder m from k (listed chs)
+  pub place : Some (span r.start.0 r.end.0) ≡ holder m from k (listed chs)
   pub offset : r.offset ≡ offset_of m k (listed chs)
 
 -- characters are there, and their key has a part from s up to e that is not empty

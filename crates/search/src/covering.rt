@@ -7,7 +7,7 @@ ghost use Rattle.pages.specs.Pages.{pages};
 ghost use Rattle.decompose.specs.TableCheck.{Usable};
 ghost use Rattle.search.specs.Covering.{span};
 ghost use Rattle.search.specs.Substring.{run_in};
-ghost use Rattle.search.specs.Promises.{Within, HasOctet, HolderFound, holding, run_span};
+ghost use Rattle.search.specs.Promises.{Within, HasOctet, HolderFound, run_span};
 
 use terms::{KeyPosition, TextPosition};
 
@@ -41,17 +41,21 @@ pub fn cover(
     ensures { run_span result ≡ run_in (mapping_of (table entries.now pool.now))
         (characters text.now) (span start.0 end.0) }
 {
-    let s = start.0;
-    let e = end.0;
     let first = find_holder(text, entries, pool, presence, ranks, TextPosition(0), start);
-    let from = first.start;
     // The last octet is sought from the first one's character on, so that the text is walked once.
-    let k = first.offset + (e - 1 - s);
-    let last = find_holder(text, entries, pool, presence, ranks, from, KeyPosition(k));
-    let to = last.end;
+    let k = first.offset + (end.0 - 1 - start.0);
+    let last = find_holder(
+        text,
+        entries,
+        pool,
+        presence,
+        ranks,
+        first.start,
+        KeyPosition(k),
+    );
     Run {
-        start: from,
-        end: to,
+        start: first.start,
+        end: last.end,
     }
 }
 
@@ -72,28 +76,21 @@ fn find_holder(
 {
     let mut at = from;
     let mut left = k;
+    // No `for`: a step is as wide as the character that was read there.
     while at.0 < text.len() {
         let character = utf8::read_valid(text, at);
         let sized = decompose::size_expansion(character.code, entries, pool, presence, ranks);
-        let octets = sized.octets;
         let next = TextPosition(at.0 + character.width);
-        if left.0 < octets {
-            return holder_at(at, next, left);
+        if left.0 < sized.octets {
+            return Holder {
+                start: at,
+                end: next,
+                offset: left.0,
+            };
         }
         at = next;
-        left.0 -= octets;
+        left.0 -= sized.octets;
     }
-    // Never so: the key is longer than k.
-    holder_at(at, at, left)
-}
-
-// A holder by its two places in the text, and by the octet's in the key, counted from the holder's first octet.
-fn holder_at(start: TextPosition, end: TextPosition, k: KeyPosition) -> Holder
-    ensures { result ≡ holding start.0 end.0 k.0 }
-{
-    Holder {
-        start,
-        end,
-        offset: k.0,
-    }
+    // The key is longer than k.
+    unreachable!()
 }

@@ -7,35 +7,30 @@
 mod covering;
 
 ghost use Rattle.std.specs.Prelude.{◌≡◌, [], ◌∷◌, ◌≤◌, length};
-ghost use Rattle.std.proofs.Math.Option.{some};
+ghost use Rattle.std.specs.Prelude.{Some};
 ghost use Rattle.terms.specs.Collations.{collation_of};
-ghost use Rattle.terms.specs.Refusals.{text_most, gives};
+ghost use Rattle.terms.specs.Refusals.{text_most};
 ghost use Rattle.table.specs.Table.{table, mapping_of};
 ghost use Rattle.pages.specs.Pages.{pages};
 ghost use Rattle.keys.specs.Keys.{UsableUnder};
 ghost use Rattle.prepare.specs.Calls.{two_call, Called, CalledPaging, CalledReady, UsableBy};
 ghost use Rattle.occurrence.specs.Occurrence.{occurrence};
 ghost use Rattle.search.specs.Covering.{span};
-ghost use Rattle.search.specs.Substring.{substring_outcome, text_run, hit_values, found_values, substring_values, sought_values};
+ghost use Rattle.search.specs.Substring.{hit_numbers, substring_outcome, text_run, hit_values, found_values, substring_values};
+ghost use Rattle.search.specs.Substring.{sought_values};
 ghost use Rattle.search.specs.Promises.{Shows, Seekable, Hits};
 
-use covering::cover;
+use covering::{Run, cover};
 use keys::Summary;
-use occurrence::Occurrence;
-use prepare::{CallCheck, PreparedPair};
 use terms::{Collation, KeyPosition, Refusal, TextPosition};
 
 // Where the first text's key occurs in the second's, and the run of whole characters of the second text that covers it.
 #[derive(Clone, Copy)]
-pub enum Sought {
-    Match {
-        key_start: KeyPosition,
-        key_end: KeyPosition,
-        text_start: TextPosition,
-        text_end: TextPosition,
-    },
-    NoMatch,
-    Refused(Refusal),
+pub struct Hit {
+    pub key_start: KeyPosition,
+    pub key_end: KeyPosition,
+    pub text_start: TextPosition,
+    pub text_end: TextPosition,
 }
 
 // Seeks the first text in the second under a collation. Both keys are left as by `prepare`, each in its own buffer.
@@ -49,14 +44,14 @@ pub fn substring(
     ranks: &mut [u64],
     first_key: &mut [u8],
     second_key: &mut [u8],
-) -> Sought
+) -> Result<Option<Hit>, Refusal>
     ensures { CalledPaging substring_outcome sought_values (two_call (collation_of collation) first.now
         second.now entries.now pool.now presence.old ranks.old
         first_key.old
         second_key.old) result (first_key.new ∷ second_key.new ∷ [])
         (pages presence.new ranks.new) }
 {
-    let checked = prepare::check_call(
+    prepare::check_call(
         collation,
         first.len(),
         second.len(),
@@ -64,13 +59,10 @@ pub fn substring(
         pool,
         presence,
         ranks,
-    );
-    match checked {
-        CallCheck::Passed(_) => substring_accepted(
-            collation, first, second, entries, pool, presence, ranks, first_key, second_key,
-        ),
-        CallCheck::Refused(r) => Sought::Refused(r),
-    }
+    )?;
+    substring_accepted(
+        collation, first, second, entries, pool, presence, ranks, first_key, second_key,
+    )
 }
 
 // As `substring`, over a table that is accepted already, with its pages.
@@ -84,20 +76,17 @@ pub fn substring_accepted(
     ranks: &[u64],
     first_key: &mut [u8],
     second_key: &mut [u8],
-) -> Sought
+) -> Result<Option<Hit>, Refusal>
     requires { UsableBy (collation_of collation) (table entries.now pool.now) (pages presence.now ranks.now) }
     ensures { Called substring_outcome sought_values (two_call (collation_of collation) first.now
         second.now entries.now pool.now presence.now ranks.now
         first_key.old
         second_key.old) result (first_key.new ∷ second_key.new ∷ []) }
 {
-    let texts = prepare::check_texts(collation, first.len(), second.len());
-    match texts {
-        CallCheck::Passed(known) => seek_ready(
-            known, first, second, entries, pool, presence, ranks, first_key, second_key,
-        ),
-        CallCheck::Refused(r) => Sought::Refused(r),
-    }
+    let known = prepare::check_texts(collation, first.len(), second.len())?;
+    seek_ready(
+        known, first, second, entries, pool, presence, ranks, first_key, second_key,
+    )
 }
 
 // Seeks the first text in the second where 1 to 7 and 15 were passed.
@@ -111,27 +100,21 @@ fn seek_ready(
     ranks: &[u64],
     first_key: &mut [u8],
     second_key: &mut [u8],
-) -> Sought
+) -> Result<Option<Hit>, Refusal>
     requires first_len_bound { length first.now ≤ text_most }
     requires second_len_bound { length second.now ≤ text_most }
     requires usable_under { UsableUnder collation (table entries.now pool.now) (pages presence.now ranks.now) }
-    ensures { CalledReady substring_outcome sought_values (two_call (some collation) first.now
+    ensures { CalledReady substring_outcome sought_values (two_call (Some collation) first.now
         second.now entries.now pool.now presence.now ranks.now
         first_key.old
         second_key.old) result (first_key.new ∷ second_key.new ∷ []) }
 {
-    let pair = prepare::fill_two(
+    let (one, two) = prepare::fill_two(
         collation, first, second, entries, pool, presence, ranks, first_key, second_key,
-    );
-    match pair {
-        PreparedPair::Both(one, two) => {
-            seek_shown(
-                collation, first, first_key, one, second, second_key, two, entries, pool, presence,
-                ranks,
-            )
-        }
-        PreparedPair::Refused(r) => Sought::Refused(r),
-    }
+    )?;
+    Ok(seek_shown(
+        collation, first, first_key, one, second, second_key, two, entries, pool, presence, ranks,
+    ))
 }
 
 // The first text sought in the second, over the keys that the two prepared texts show.
@@ -147,20 +130,20 @@ fn seek_shown<'a, 'b>(
     pool: &[u32],
     presence: &[u64],
     ranks: &[u64],
-) -> Sought
+) -> Option<Hit>
     requires usable_under { UsableUnder collation (table entries.now pool.now) (pages presence.now ranks.now) }
     requires shows { Shows collation (mapping_of (table entries.now pool.now)) first.now first_key.now one second.now
         second_key.now two }
-    ensures { substring_outcome result ≡ gives (substring_values collation
-        (mapping_of (table entries.now pool.now)) first.now second.now) }
+    ensures { hit_numbers result ≡ substring_values collation
+        (mapping_of (table entries.now pool.now)) first.now second.now }
 {
-    if first.len() == 0 {
-        return Sought::Match {
+    if first.is_empty() {
+        return Some(Hit {
             key_start: KeyPosition(0),
             key_end: KeyPosition(0),
             text_start: TextPosition(0),
             text_end: TextPosition(0),
-        };
+        });
     }
     let needle = keys::shown_part(first, first_key, one);
     let hay = keys::shown_part(second, second_key, two);
@@ -180,36 +163,22 @@ fn seek_key(
     pool: &[u32],
     presence: &[u64],
     ranks: &[u64],
-) -> Sought
+) -> Option<Hit>
     requires usable_under { UsableUnder collation (table entries.now pool.now) (pages presence.now ranks.now) }
     requires seekable { Seekable collation (mapping_of (table entries.now pool.now)) needle.now hay.now second.now valid }
-    ensures { substring_outcome result ≡ gives (found_values collation
+    ensures { hit_numbers result ≡ found_values collation
         (mapping_of (table entries.now pool.now)) second.now (length needle.now)
-        (occurrence needle.now hay.now)) }
+        (occurrence needle.now hay.now) }
 {
-    let found = occurrence::find(needle, hay);
-    match found {
-        Occurrence::At(start) => {
-            let s = start.0;
-            let e = s + needle.len();
-            hit(
-                collation,
-                second,
-                valid,
-                entries,
-                pool,
-                presence,
-                ranks,
-                start,
-                KeyPosition(e),
-            )
-        }
-        Occurrence::Nowhere => Sought::NoMatch,
-    }
+    let start = occurrence::find(needle, hay)?;
+    let end = KeyPosition(start.0 + needle.len());
+    Some(hit_at(
+        collation, second, valid, entries, pool, presence, ranks, start, end,
+    ))
 }
 
 // A hit at a part of the second text's key, with the run of the text that covers it.
-fn hit(
+fn hit_at(
     collation: Collation,
     second: &[u8],
     valid: bool,
@@ -219,29 +188,24 @@ fn hit(
     ranks: &[u64],
     start: KeyPosition,
     end: KeyPosition,
-) -> Sought
+) -> Hit
     requires usable_under { UsableUnder collation (table entries.now pool.now) (pages presence.now ranks.now) }
     requires hits { Hits collation (mapping_of (table entries.now pool.now)) second.now valid start.0 end.0 }
-    ensures { substring_outcome result ≡ gives (hit_values (span start.0 end.0) (text_run collation
-        (mapping_of (table entries.now pool.now)) second.now (span start.0 end.0))) }
+    ensures { hit_numbers (Some result) ≡ hit_values (span start.0 end.0) (text_run collation
+        (mapping_of (table entries.now pool.now)) second.now (span start.0 end.0)) }
 {
-    if terms::reads_table(collation) {
-        if valid {
-            let run = cover(second, entries, pool, presence, ranks, start, end);
-            let text_start = run.start;
-            let text_end = run.end;
-            return Sought::Match {
-                key_start: start,
-                key_end: end,
-                text_start,
-                text_end,
-            };
+    let run = if terms::reads_table(collation) && valid {
+        cover(second, entries, pool, presence, ranks, start, end)
+    } else {
+        Run {
+            start: TextPosition(start.0),
+            end: TextPosition(end.0),
         }
-    }
-    Sought::Match {
+    };
+    Hit {
         key_start: start,
         key_end: end,
-        text_start: TextPosition(start.0),
-        text_end: TextPosition(end.0),
+        text_start: run.start,
+        text_end: run.end,
     }
 }

@@ -57,8 +57,8 @@ module _ (le : ℕ → ℕ → Bool) where
     room = k;
     long = refl;
     whole =
-        let none : 0 + (half - half) ≡ 0 = omega arith in
-        ap (λ (n : ℕ). take n out ++ merged le (take half row) (drop half row)) none;
+        let None : 0 + (half - half) ≡ 0 = omega arith in
+        ap (λ (n : ℕ). take n out ++ merged le (take half row) (drop half row)) None;
   }
 
   module _ {row : List ℕ} {half size i j : ℕ} {out : List ℕ} (m : Merging row half size i j out) (more : i < half) where

@@ -6,7 +6,8 @@ use native.Mathlib.Omega.{arith}
 use mathlib.Core.Bool.{true, false, true≢false}
 use mathlib.Core.List.{List}
 use borrow.Author.Tests.{le-leb, leb-true, leb-false}
-use Rattle.octets.specs.Order.{order_of}
+use Rattle.std.specs.declared.cmp.Ordering as std
+use Rattle.octets.specs.Order.{order_of, compared_order}
 use Rattle.octets.proofs.Order.{order-equal, order-refl, order_flip, order_trans}
 use Rattle.octets.proofs.Orders.{flip}
 use Rattle.sorting.specs.KeyOrder.{may_precede, key_order}
@@ -16,6 +17,12 @@ module _ (key : ℕ → List ℕ) where
   pub key_order-by : (x y : ℕ) (o : Ordering) → order_of (key x) (key y) ≡ o → key_order key x y ≡ may_precede o x y
   unfolding key_order
   key_order-by x y o e = ap (λ (p : Ordering). may_precede p x y) e
+
+  -- by how the keys compare
+  pub key_order-compared : (x y : ℕ) {a b : List ℕ} {o p : std.Ordering} → a ≡ key x → b ≡ key y
+      → compared_order o ≡ order_of a b → o ≡ p → may_precede (compared_order p) x y ≡ key_order key x y
+  key_order-compared x y f g compared is =
+      sym (key_order-by x y _ (rw (← f, ← g, ← is) (sym compared)))
 
   -- a number that may stand before another has no greater key
   pub key_order-keys : (x y : ℕ) → key_order key x y ≡ true → order_of (key x) (key y) ≡ Ordering.gt → ⊥

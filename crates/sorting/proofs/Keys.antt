@@ -16,17 +16,16 @@ pub start_of-next : (ends : List ℕ) (x : ℕ) → (x ≡ 0 → ⊥) → start_
 start_of-next ends zero h = absurd (h refl)
 start_of-next ends (suc x) h = ap (λ (y : ℕ). get_or ends y 0) (omega arith)
 
--- the first key
-pub key_in-first : (store ends : List ℕ) (x : ℕ) → x ≡ 0 → key_in store ends x ≡ take (get_or ends x 0) store
-unfolding key_in
-key_in-first store ends zero h = let n : get_or ends 0 0 - 0 ≡ get_or ends 0 0 = omega arith in ap (λ (m : ℕ). take m store) n
-key_in-first store ends (suc x) h = absurd (omega arith)
+-- the first begins at the start
+pub start_of-first : (ends : List ℕ) (x : ℕ) → x ≡ 0 → start_of ends x ≡ 0
+start_of-first ends zero h = refl
+start_of-first ends (suc x) h = absurd (omega arith)
 
--- another key
-pub key_in-next : (store ends : List ℕ) (x : ℕ) → (x ≡ 0 → ⊥)
-    → key_in store ends x ≡ take (get_or ends x 0 - get_or ends (x - 1) 0) (drop (get_or ends (x - 1) 0) store)
+-- a key from where it begins
+pub key_in-from : (store ends : List ℕ) (x start : ℕ) → start_of ends x ≡ start
+    → key_in store ends x ≡ take (get_or ends x 0 - start) (drop start store)
 unfolding key_in
-key_in-next store ends x h = rw (start_of-next ends x h)
+key_in-from store ends x start h = rw h
 
 -- a number of a row is a key's
 pub numbered-at : (ends row : List ℕ) (i : ℕ) → all_numbered ends row ≡ true → i < length row → get_or row i 0 < length ends

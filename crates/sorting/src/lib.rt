@@ -12,7 +12,8 @@ ghost use Rattle.sorting.specs.Sorted.{sorted};
 ghost use Rattle.sorting.specs.KeyOrder.{key_in, Ends, all_numbered, key_order};
 
 use merging::join;
-use octets::Comparison;
+use octets::compare_octets;
+use std::cmp::Ordering;
 
 // Sorts a row by the keys of its numbers, equal keys by number. The spare row is written over.
 pub fn sort(store: &[u8], ends: &[usize], row: &mut [u32], spare: &mut [u32])
@@ -38,10 +39,7 @@ pub fn key_at<'a>(store: &'a [u8], ends: &[usize], x: usize) -> &'a [u8]
     ensures { result.now ≡ key_in store.now ends.now x }
 {
     let end = ends[x];
-    if x == 0 {
-        return &store[..end];
-    }
-    let start = ends[x - 1];
+    let start = if x == 0 { 0 } else { ends[x - 1] };
     &store[start..end]
 }
 
@@ -54,10 +52,9 @@ fn may_precede(store: &[u8], ends: &[usize], x: u32, y: u32) -> bool
 {
     let a = key_at(store, ends, x as usize);
     let b = key_at(store, ends, y as usize);
-    let comparison = octets::compare_octets(a, b);
-    match comparison {
-        Comparison::Less => true,
-        Comparison::Equal => x <= y,
-        Comparison::Greater => false,
+    match compare_octets(a, b) {
+        Ordering::Less => true,
+        Ordering::Equal => x <= y,
+        Ordering::Greater => false,
     }
 }

@@ -1,6 +1,5 @@
 // One step of the sort: two parts of a row, each in order, become one.
 ghost use Rattle.std.specs.Prelude.{◌≡◌, true, ◌<◌, ◌≤◌, length, take, drop};
-ghost use Rattle.terms.specs.Lists.{over};
 ghost use Rattle.sorting.specs.Sorted.{merged};
 ghost use Rattle.sorting.specs.KeyOrder.{key_in, Ends, all_numbered, key_order};
 ghost use Rattle.sorting.specs.Promises.{first_left, Merges};
@@ -17,7 +16,7 @@ pub fn join(store: &[u8], ends: &[usize], row: &mut [u32], half: usize, spare: &
         (take half row.old) (drop half row.old) }
 {
     let count = merge(store, ends, row, half, spare);
-    copy_back(spare, count, row);
+    row[..count].copy_from_slice(&spare[..count]);
 }
 
 // Merges the part of a row before half with the part from there on, until the former is used up, and answers how many numbers
@@ -30,6 +29,7 @@ fn merge(store: &[u8], ends: &[usize], row: &[u32], half: usize, out: &mut [u32]
     ensures { Merges (key_order (key_in store.now ends.now)) row.now half result
         out.new }
 {
+    // Two places that advance by turns, so not a `for`.
     let mut i = 0;
     let mut j = half;
     while i < half {
@@ -54,21 +54,5 @@ fn takes_left(store: &[u8], ends: &[usize], row: &[u32], i: usize, j: usize) -> 
     ensures { result ≡ first_left (key_order (key_in store.now ends.now)) (drop i row.now)
         (drop j row.now) }
 {
-    if j == row.len() {
-        return true;
-    }
-    may_precede(store, ends, row[i], row[j])
-}
-
-// Copies so many numbers to the start of a row.
-fn copy_back(from: &[u32], n: usize, row: &mut [u32])
-    requires n_in_bounds { n ≤ length from.now }
-    requires n_in_bounds_2 { n ≤ length row.old }
-    ensures { row.new ≡ over (take n from.now) row.old }
-{
-    let mut i = 0;
-    while i < n {
-        row[i] = from[i];
-        i += 1;
-    }
+    j == row.len() || may_precede(store, ends, row[i], row[j])
 }

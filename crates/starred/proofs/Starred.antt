@@ -4,7 +4,7 @@
 use mathlib.Core.Path.{◌≡◌, refl}
 use mathlib.Core.Bool.{false}
 use mathlib.Core.List.{map, [], ◌∷◌}
-use mathlib.Core.Option.{none, some}
+use Rattle.std.specs.Prelude.{None, Some}
 use Rattle.terms.specs.Lists.{lowest, each, total, begins}
 use Rattle.terms.specs.Refusals.{refusal}
 use Rattle.utf8.specs.Characters.{characters_after, characters_by}
@@ -30,12 +30,12 @@ fine : faulty_syllable (mapping_of (table entries_t pool_t)) ≡ false
 unfolding lowest each entry_count number_at syllable entry_of within full largest
 fine = table-syllables (table entries_t pool_t) 1 1 1 refl refl refl
 
-accepted : table_refusal (table entries_t pool_t) ≡ none
+accepted : table_refusal (table entries_t pool_t) ≡ None
 unfolding lowest each entry_count whole_entries number_at counts_below not_above syllable form_refusal entry_of within full table_refusal
 accepted = rw fine
 
 -- the table of the last row is refused
-refused-7 : table_refusal (table (0x41 ∷ 0x41 ∷ 0 ∷ 1 ∷ []) (0x41 ∷ [])) ≡ some (refusal 7 0 0)
+refused-7 : table_refusal (table (0x41 ∷ 0x41 ∷ 0 ∷ 1 ∷ []) (0x41 ∷ [])) ≡ Some (refusal 7 0 0)
 unfolding lowest each entry_count whole_entries number_at counts_below not_above syllable form_refusal entry_of within full table_refusal
 refused-7 = refl
 

@@ -3,7 +3,7 @@
 -- An answer is a row of numbers: number, place, detail, and then the call's values.
 -- Assumes nothing.
 use Rattle.std.specs.Prelude.{ℕ, List, [], ◌∷◌, ◌++◌, replicate}
-use Rattle.std.proofs.Math.Option.{Option, none, some}
+use Rattle.std.specs.Prelude.{Option, None, Some}
 use Rattle.terms.specs.Collations.{collation_of}
 use Rattle.terms.specs.Lists.{each}
 use Rattle.terms.specs.Refusals.{Outcome, row}
@@ -39,8 +39,8 @@ blank = replicate 6 0xEE
 
 -- an answer of n values as a row, and no row where there is no answer
 abbrev pub row_of : ℕ → Option Outcome → List ℕ
-row_of n none = []
-row_of n (some o) = row n o
+row_of n None = []
+row_of n (Some o) = row n o
 
 -- what a call answers by its n values, and what it leaves in its key buffers, one after another
 abbrev pub answering : ℕ → (Call → Option (List ℕ)) → Call → List ℕ

@@ -3,7 +3,7 @@
 use mathlib.Core.Path.{◌≡◌, refl, sym}
 use Prim.Native.Nat.{ℕ, ◌≤◌, ◌<◌}
 use mathlib.Core.Bool.{false}
-use mathlib.Core.Option.{Option, none, some}
+use Rattle.std.specs.Prelude.{Option, None, Some}
 use mathlib.Core.List.{List, [], ◌∷◌}
 use lib.Dec.{ltb}
 use lib.ListN.{length, get_or}
@@ -18,11 +18,11 @@ use Rattle.sorting.specs.KeyOrder.{start_of, Ends}
 use Rattle.storing.specs.Ends.{string_at, faulty_end, ends_refusal}
 
 -- none is at fault
-pub string_at-none : (number : ℕ) (o : Option ℕ) → string_at number o ≡ none → o ≡ none
-string_at-none number none e = refl
-string_at-none number (some i) e = absurd (none-some (refusal number 1 i) (sym e))
+pub string_at-none : (number : ℕ) (o : Option ℕ) → string_at number o ≡ None → o ≡ None
+string_at-none number None e = refl
+string_at-none number (Some i) e = absurd (none-some (refusal number 1 i) (sym e))
 
-module _ (octets : ℕ) (ends : List ℕ) (passed : ends_refusal octets ends ≡ none) where
+module _ (octets : ℕ) (ends : List ℕ) (passed : ends_refusal octets ends ≡ None) where
   abbrev checks : List (Option Refusal)
   checks = check (ltb ends_most (length ends)) 14 1 0 ∷ string_at 36 (lowest (faulty_end octets ends) (length ends)) ∷ []
 
@@ -46,7 +46,7 @@ module _ (octets : ℕ) (ends : List ℕ) (passed : ends_refusal octets ends ≡
       (or_right (ltb octets (get_or ends x 0)) (ltb (get_or ends x 0) (start_of ends x)) (sound x h))
 
 -- they are ends of keys there
-pub ends-passed : (octets ends : List ℕ) → ends_refusal (length octets) ends ≡ none → Ends octets ends
+pub ends-passed : (octets ends : List ℕ) → ends_refusal (length octets) ends ≡ None → Ends octets ends
 ends-passed octets ends e = record {
   forward = end-forward (length octets) ends e;
   within = end-within (length octets) ends e;

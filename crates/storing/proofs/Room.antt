@@ -3,7 +3,7 @@
 use mathlib.Core.Path.{◌≡◌, refl, sym, ap}
 use Prim.Native.Nat.{ℕ, ◌≤◌, ◌<◌}
 use mathlib.Core.Bool.{◌||◌}
-use mathlib.Core.Option.{none, some}
+use Rattle.std.specs.Prelude.{None, Some}
 use lib.Dec.{ltb}
 use borrow.Author.Tests.{ltb-false, lt-ltb, le-ltb}
 use Rattle.terms.specs.Refusals.{refusal}
@@ -12,10 +12,10 @@ use Rattle.terms.proofs.Checks.{or_left, or_right, when-none}
 use Rattle.storing.specs.Rooms.{store_check, arrays_check}
 
 -- there is room
-pub store-room : {room needed : ℕ} → none ≡ store_check room needed → needed ≤ room
+pub store-room : {room needed : ℕ} → None ≡ store_check room needed → needed ≤ room
 store-room {room} {needed} e = ltb-false room needed (when-none (ltb room needed) (refusal 8 0 needed) (sym e))
 
-pub arrays-room : (one two names : ℕ) → none ≡ arrays_check one two names → (names ≤ one) × (names ≤ two)
+pub arrays-room : (one two names : ℕ) → None ≡ arrays_check one two names → (names ≤ one) × (names ≤ two)
 arrays-room one two names e =
     let neither = when-none (ltb one names || ltb two names) (refusal 8 0 names) (sym e) in (
       ltb-false one names (or_left (ltb one names) (ltb two names) neither),
@@ -23,8 +23,8 @@ arrays-room one two names e =
     )
 
 -- the store is long enough, or too short
-pub store-enough : {room needed : ℕ} → needed ≤ room → none ≡ store_check room needed
+pub store-enough : {room needed : ℕ} → needed ≤ room → None ≡ store_check room needed
 store-enough {room} {needed} h = rw (le-ltb room needed h) refl
 
-pub store-short : {x : Refusal} {room needed : ℕ} → room < needed → x ≡ refusal 8 0 needed → some x ≡ store_check room needed
-store-short {x} {room} {needed} h e = rw (lt-ltb room needed h) (ap some e)
+pub store-short : {x : Refusal} {room needed : ℕ} → room < needed → x ≡ refusal 8 0 needed → Some x ≡ store_check room needed
+store-short {x} {room} {needed} h e = rw (lt-ltb room needed h) (ap Some e)

@@ -2,23 +2,16 @@
 -- docs/DECISIONS.md says why they are as they are.
 -- Assumes nothing.
 use Rattle.std.specs.Prelude.{ℕ, Bool, ◌||◌, List, [], ◌∷◌, ltb, length, get_or}
-use Rattle.std.proofs.Math.Option.{Option, none, some}
+use Rattle.std.specs.Prelude.{Option, None, Some}
 use Rattle.terms.specs.Lists.{lowest}
 use Rattle.terms.specs.Refusals.{ends_most, refusal, check, first}
 use Rattle.terms.specs.declared.Refusal.{Refusal}
 use Rattle.sorting.specs.KeyOrder.{start_of}
-use Rattle.storing.specs.declared.ends.Place.{Place}
-use Rattle.storing.specs.declared.ends.Place.TheVariants.{At, Nowhere}
-
--- the number that was found at fault, if one was
-abbrev pub place_found : Place → Option ℕ
-place_found (At i) = some i
-place_found Nowhere = none
 
 -- a check of a lone slice, whose detail is the lowest number of an octet string at fault
 abbrev pub string_at : ℕ → Option ℕ → Option Refusal
-string_at number none = none
-string_at number (some i) = some (refusal number 1 i)
+string_at number None = None
+string_at number (Some i) = Some (refusal number 1 i)
 
 -- 36: an end past the octets, or below the one before it
 abbrev pub faulty_end : ℕ → List ℕ → ℕ → Bool

@@ -1,7 +1,7 @@
 -- Room for keys, and for numbers of them (document 02, request 3): 8, with place 0.
 -- Assumes nothing.
 use Rattle.std.specs.Prelude.{ℕ, ◌||◌, ltb}
-use Rattle.std.proofs.Math.Option.{Option}
+use Rattle.std.specs.Prelude.{Option}
 use Rattle.terms.specs.Refusals.{check}
 use Rattle.terms.specs.declared.Refusal.{Refusal}
 

@@ -1,7 +1,7 @@
 -- Keys in a store one after another (document 02, request 3), by where they end; and one key put.
 -- Assumes nothing.
 use Rattle.std.specs.Prelude.{◌≡◌, ℕ, ◌+◌, List, [], ◌∷◌, map, length}
-use Rattle.std.proofs.Math.Option.{Option, none, some}
+use Rattle.std.specs.Prelude.{Option, None, Some}
 use Rattle.terms.specs.Lists.{each, over, put_at}
 use Rattle.terms.specs.declared.Collation.{Collation}
 use Rattle.table.specs.Mapping.{Mapping}
@@ -13,8 +13,8 @@ use Rattle.sorting.specs.KeyOrder.{key_in}
 
 -- the keys of names; a number that is no collation's gives none
 abbrev pub keys_under : Option Collation → Mapping → List (List ℕ) → List (List ℕ)
-keys_under none m names = []
-keys_under (some k) m names = map (key_of k m) names
+keys_under None m names = []
+keys_under (Some k) m names = map (key_of k m) names
 
 -- "Keys stand .. one after another"
 abbrev pub joined : List (List ℕ) → List ℕ

@@ -1,44 +1,36 @@
 // Whether numbers can be the ends of octet strings in a slice: 14 and 36.
 ghost use Rattle.std.specs.Prelude.{◌≡◌, [], ◌∷◌, ◌<◌, length};
+ghost use Rattle.std.specs.Result.{result_err};
 ghost use Rattle.terms.specs.Lists.{lowest};
-ghost use Rattle.terms.specs.Refusals.{refusal, check_refusal};
-ghost use Rattle.storing.specs.Ends.{faulty_end, ends_refusal, place_found};
+ghost use Rattle.terms.specs.Refusals.{refusal};
+ghost use Rattle.storing.specs.Ends.{faulty_end, ends_refusal};
+ghost use Rattle.terms.specs.Reasons.{reason_number};
 
-use terms::{Check, Refusal};
-
-// The number of an octet string, if there is one at fault.
-#[derive(Clone, Copy)]
-pub enum Place {
-    At(usize),
-    Nowhere,
-}
+use terms::{Reason, Refusal};
 
 // Whether numbers can be the ends of octet strings in a slice of so many octets.
-pub fn check_ends(octets: usize, ends: &[usize]) -> Check
-    ensures { check_refusal result ≡ ends_refusal octets ends.now }
+pub fn check_ends(octets: usize, ends: &[usize]) -> Result<(), Refusal>
+    ensures { result_err result ≡ ends_refusal octets ends.now }
 {
     if terms::ENDS_MOST < ends.len() {
-        return Check::Refused(refused(terms::REFUSED_END_COUNT, 0));
+        return Err(refused(Reason::Count, 0));
     }
-    let fault = faulty_end(octets, ends);
-    match fault {
-        Place::At(i) => Check::Refused(refused(terms::REFUSED_END, i)),
-        Place::Nowhere => Check::Passed,
+    match faulty_end(octets, ends) {
+        Some(i) => Err(refused(Reason::End, i)),
+        None => Ok(()),
     }
 }
 
 // The lowest number whose end is at fault.
-fn faulty_end(octets: usize, ends: &[usize]) -> Place
-    ensures { place_found result ≡ lowest (faulty_end octets ends.now) (length ends.now) }
+fn faulty_end(octets: usize, ends: &[usize]) -> Option<usize>
+    ensures { result ≡ lowest (faulty_end octets ends.now) (length ends.now) }
 {
-    let mut i = 0;
-    while i < ends.len() {
+    for i in 0..ends.len() {
         if is_faulty_end(octets, ends, i) {
-            return Place::At(i);
+            return Some(i);
         }
-        i += 1;
     }
-    Place::Nowhere
+    None
 }
 
 // Whether an end is below the one before it, or past the octets.
@@ -46,22 +38,15 @@ fn is_faulty_end(octets: usize, ends: &[usize], i: usize) -> bool
     requires { i < length ends.now }
     ensures { result ≡ faulty_end octets ends.now i }
 {
-    let end = ends[i];
-    if octets < end {
-        return true;
-    }
-    if i == 0 {
-        return false;
-    }
-    end < ends[i - 1]
+    octets < ends[i] || (i != 0 && ends[i] < ends[i - 1])
 }
 
 // A refusal of a lone slice, with its detail.
-fn refused(number: u32, detail: usize) -> Refusal
-    ensures { result ≡ refusal number 1 detail }
+fn refused(reason: Reason, detail: usize) -> Refusal
+    ensures { result ≡ refusal (reason_number reason) 1 detail }
 {
     Refusal {
-        number,
+        reason,
         place: 1,
         detail: detail as u64,
     }

@@ -16,7 +16,7 @@ ghost use Rattle.pages.specs.Pages.{pages};
 ghost use Rattle.keys.specs.Keys.{prepared, key_of, UsableUnder};
 ghost use Rattle.storing.specs.Stored.{KeyPut};
 
-pub use ends::{Place, check_ends};
+pub use ends::check_ends;
 use keys::{KeyPlace, Summary};
 pub use rooms::check_arrays;
 use terms::Collation;
@@ -38,13 +38,9 @@ pub fn put_key(
         text.now) out.old result out.new }
 {
     let summary = keys::fill_key(collation, text, entries, pool, presence, ranks, out);
-    let place = summary.place;
-    match place {
-        // A key that is the text itself is copied.
-        KeyPlace::Text => {
-            octets::put_octets(text, out);
-        }
-        KeyPlace::Buffer => {}
+    // A key that is the text itself is copied.
+    if let KeyPlace::Text = summary.place {
+        octets::put_octets(text, out);
     }
     summary
 }

@@ -6,7 +6,7 @@ use native.Mathlib.Omega.{arith}
 use native.Mathlib.Decide.{ℕ_discrete}
 use mathlib.Core.Path.{◌≡◌, refl, sym, ap, ◌∙◌}
 use mathlib.Core.Bool.{Bool, true, false, cond, ◌||◌, not, true≢false}
-use mathlib.Core.Option.{Option, none, some}
+use Rattle.std.specs.Prelude.{Option, None, Some}
 use mathlib.Core.List.{List, [], ◌∷◌}
 use lib.Dec.{eqb, ltb}
 use lib.ListN.{length, get_or, take, drop, length-take, length-drop}
@@ -28,9 +28,9 @@ use Rattle.table.specs.Promises.{Ascending}
 -- ---- none of the checks applies
 
 -- no place is refused
-pub refused_at-none : (n : ℕ) (o : Option ℕ) → refused_at n o ≡ none → o ≡ none
-refused_at-none n none e = refl
-refused_at-none n (some i) e = cc
+pub refused_at-none : (n : ℕ) (o : Option ℕ) → refused_at n o ≡ None → o ≡ None
+refused_at-none n None e = refl
+refused_at-none n (Some i) e = cc
 
 -- none of 3 to 6 applies, check by check
 pub record Formed (t : Table) : Type 0 where
@@ -41,7 +41,7 @@ pub record Formed (t : Table) : Type 0 where
   pub numbers : (j : ℕ) → j < length t.pool → faulty_number t.pool j ≡ false
 
 -- a table of the form passes each check
-pub formed : (t : Table) → form_refusal t ≡ none → Formed t
+pub formed : (t : Table) → form_refusal t ≡ None → Formed t
 unfolding form_refusal
 formed t e =
     let count = entry_count t.entries in
@@ -49,10 +49,10 @@ formed t e =
     let o6 = lowest (faulty_number t.pool) (length t.pool) in
     let h3 = or_else-neither (check (faulty_size t) 3 0 0) _ e in
     let h4 = or_else-neither (refused_at 4 (lowest (faulty_code t.entries) count))
-    (or_else (refused_at 5 o5) (or_else (refused_at 6 o6) none))
+    (or_else (refused_at 5 o5) (or_else (refused_at 6 o6) None))
     h3.1 in
-    let h5 = or_else-neither (refused_at 5 o5) (or_else (refused_at 6 o6) none) h4.1 in
-    let h6 = or_else-neither (refused_at 6 o6) none h5.1 in
+    let h5 = or_else-neither (refused_at 5 o5) (or_else (refused_at 6 o6) None) h4.1 in
+    let h6 = or_else-neither (refused_at 6 o6) None h5.1 in
     let fault = or_else-neither (lowest (faulty_entry t) count) (when (pool_left t) count) (refused_at-none 5 o5 h5.0) in
     record {
       size = when-none (faulty_size t) (refusal 3 0 0) h3.0;
@@ -63,7 +63,7 @@ formed t e =
     }
 
 -- and one that passes each has the form
-pub form-formed : (t : Table) → Formed t → form_refusal t ≡ none
+pub form-formed : (t : Table) → Formed t → form_refusal t ≡ None
 unfolding form_refusal
 form-formed t f =
     rw (
@@ -106,7 +106,7 @@ sound-fits t i e =
 
 -- ---- a table of the form
 
-module _ (t : Table) (form : form_refusal t ≡ none) where
+module _ (t : Table) (form : form_refusal t ≡ None) where
   -- its code points ascend
   pub formed-ascending : Ascending t.entries
   unfolding not_above
@@ -153,7 +153,7 @@ ascending-from es up zero l = omega arith
 ascending-from es up (suc k) l = omega (arith, ascending-from es up k (omega arith), up k l)
 
 -- an entry is the one of its code point
-pub entry_of-entry : (es : List ℕ) → Ascending es → (i : ℕ) → i < entry_count es → entry_of es (code_at es i) ≡ some i
+pub entry_of-entry : (es : List ℕ) → Ascending es → (i : ℕ) → i < entry_count es → entry_of es (code_at es i) ≡ Some i
 unfolding entry_of
 entry_of-entry es up i l =
     lowest-is (λ k. eqb (code_at es k) (code_at es i)) (entry_count es) i l
@@ -161,20 +161,20 @@ entry_of-entry es up i l =
     (λ k h. ne_eqb (code_at es k) (code_at es i) (λ e. omega (arith, ascending-lt es up k i h l)))
 
 -- a code point that no entry has
-pub entry_of-none : (es : List ℕ) (c : ℕ) → ((k : ℕ) → k < entry_count es → code_at es k ≡ c → ⊥) → entry_of es c ≡ none
+pub entry_of-none : (es : List ℕ) (c : ℕ) → ((k : ℕ) → k < entry_count es → code_at es k ≡ c → ⊥) → entry_of es c ≡ None
 unfolding entry_of
 entry_of-none es c other =
     lowest-nowhere (λ k. eqb (code_at es k) c) (entry_count es) (λ k l. ne_eqb (code_at es k) c (other k l))
 
 -- the entry of a code point is an entry, and has that code point
-pub entry_of-some : (es : List ℕ) (c i : ℕ) → entry_of es c ≡ some i → (i < entry_count es) × (code_at es i ≡ c)
+pub entry_of-some : (es : List ℕ) (c i : ℕ) → entry_of es c ≡ Some i → (i < entry_count es) × (code_at es i ≡ c)
 unfolding entry_of
 entry_of-some es c i e =
     let found = lowest-some (λ k. eqb (code_at es k) c) (entry_count es) i e in
     (found.below, eqb-true (code_at es i) c found.holds)
 
 -- where a code point has none, no entry has it
-pub entry_of-gone : (es : List ℕ) (c : ℕ) → entry_of es c ≡ none → (i : ℕ) → i < entry_count es → code_at es i ≡ c → ⊥
+pub entry_of-gone : (es : List ℕ) (c : ℕ) → entry_of es c ≡ None → (i : ℕ) → i < entry_count es → code_at es i ≡ c → ⊥
 unfolding entry_of
 entry_of-gone es c e i l same =
     true≢false (sym (eq-eqb (code_at es i) c same) ∙ lowest-none (λ k. eqb (code_at es k) c) (entry_count es) e i l)
@@ -182,19 +182,19 @@ entry_of-gone es c e i l same =
 -- ---- what a table means of a code point
 
 -- one with no entry is its own titlecase
-pub title_of-none : (es : List ℕ) (c : ℕ) → entry_of es c ≡ none → title_of es c ≡ c
+pub title_of-none : (es : List ℕ) (c : ℕ) → entry_of es c ≡ None → title_of es c ≡ c
 title_of-none es c e = ap (title_in es c) e
 
 -- and its entry says no parts
-pub entry_parts-none : (t : Table) (c : ℕ) → entry_of t.entries c ≡ none → entry_parts t c ≡ []
+pub entry_parts-none : (t : Table) (c : ℕ) → entry_of t.entries c ≡ None → entry_parts t c ≡ []
 entry_parts-none t c e = ap (parts_in t) e
 
 -- one with an entry has the entry's titlecase
-pub title_of-some : (es : List ℕ) (c i : ℕ) → entry_of es c ≡ some i → title_of es c ≡ title_at es i
+pub title_of-some : (es : List ℕ) (c i : ℕ) → entry_of es c ≡ Some i → title_of es c ≡ title_at es i
 title_of-some es c i e = ap (title_in es c) e
 
 -- and its parts
-pub entry_parts-some : (t : Table) (c i : ℕ) → entry_of t.entries c ≡ some i → entry_parts t c ≡ parts_in t (some i)
+pub entry_parts-some : (t : Table) (c i : ℕ) → entry_of t.entries c ≡ Some i → entry_parts t c ≡ parts_in t (Some i)
 entry_parts-some t c i e = ap (parts_in t) e
 
 -- a syllable has its jamo
@@ -206,7 +206,7 @@ pub parts_of-other : (t : Table) (c : ℕ) → syllable c ≡ false → parts_of
 parts_of-other t c other = rw other
 
 -- one with neither has no parts
-pub parts_of-none : (t : Table) (c : ℕ) → syllable c ≡ false → entry_of t.entries c ≡ none → parts_of t c ≡ []
+pub parts_of-none : (t : Table) (c : ℕ) → syllable c ≡ false → entry_of t.entries c ≡ None → parts_of t c ≡ []
 parts_of-none t c other e = parts_of-other t c other ∙ entry_parts-none t c e
 
 -- ---- what a table of the form means
@@ -226,19 +226,19 @@ all-part f xs n s h = all_get_d f (take n (drop s xs)) at
         let m = simp (length-take, length-drop) at l in
         rw (get_or-take n (drop s xs) j 0 (omega arith), get_or-drop s xs j 0) (h (s + j) (omega arith))
 
-module _ (t : Table) (form : form_refusal t ≡ none) where
+module _ (t : Table) (form : form_refusal t ≡ None) where
   -- the titlecase of a scalar code point is scalar
   pub formed-title-scalar : (c : ℕ) → scalar c ≡ true → scalar (title_of t.entries c) ≡ true
   formed-title-scalar c h = go (entry_of t.entries c) refl
     where
       go : (o : Option ℕ) → entry_of t.entries c ≡ o → scalar (title_in t.entries c o) ≡ true
-      go none e = h
-      go (some i) e = formed-title t form i (entry_of-some t.entries c i e).0
+      go None e = h
+      go (Some i) e = formed-title t form i (entry_of-some t.entries c i e).0
 
   -- the parts that an entry says are scalar
   formed-entry-scalar : (o : Option ℕ) → all scalar (parts_in t o) ≡ true
-  formed-entry-scalar none = refl
-  formed-entry-scalar (some i) =
+  formed-entry-scalar None = refl
+  formed-entry-scalar (Some i) =
       all-part scalar t.pool (count_at t.entries i) (start_at t.entries i) (formed-number t form)
 
   -- so are the parts of any code point
@@ -250,7 +250,7 @@ module _ (t : Table) (form : form_refusal t ≡ none) where
       go false other = formed-entry-scalar (entry_of t.entries c)
 
   -- no syllable has an entry
-  pub formed-unlisted : (c : ℕ) → syllable c ≡ true → entry_of t.entries c ≡ none
+  pub formed-unlisted : (c : ℕ) → syllable c ≡ true → entry_of t.entries c ≡ None
   formed-unlisted c is =
       entry_of-none t.entries c (λ k l e. true≢false (sym is ∙ ap syllable (sym e) ∙ formed-code t form k l))
 
@@ -267,7 +267,7 @@ module _ (t : Table) (form : form_refusal t ≡ none) where
   formed-title-syllable c is = title_of-none t.entries c (formed-unlisted c is)
 
   -- the parts of an entry are those of its code point
-  pub formed-parts-at : (i : ℕ) → i < entry_count t.entries → parts_of t (code_at t.entries i) ≡ parts_in t (some i)
+  pub formed-parts-at : (i : ℕ) → i < entry_count t.entries → parts_of t (code_at t.entries i) ≡ parts_in t (Some i)
   formed-parts-at i l =
       parts_of-other t (code_at t.entries i) (formed-code t form i l)
       ∙ entry_parts-some t (code_at t.entries i) i (entry_of-entry t.entries (formed-ascending t form) i l)

@@ -5,7 +5,7 @@ use Prim.Native.Nat.{ℕ, ◌+◌, ◌≤◌, ◌<◌}
 use native.Mathlib.Omega.{arith}
 use native.Mathlib.Decide.{ℕ_discrete, dec_lt}
 use mathlib.Core.Path.{◌≡◌}
-use mathlib.Core.Option.{none}
+use Rattle.std.specs.Prelude.{None}
 use mathlib.Core.List.{List}
 use Rattle.table.specs.Layout.{entry_count, code_at}
 use Rattle.table.specs.Table.{entry_of}
@@ -22,7 +22,7 @@ ascending-above es up c high e k l m = go (ℕ_discrete k high)
     go (no q) = omega (arith, ascending-lt es up high k (omega arith) m)
 
 -- there are none: the code point has no entry
-pub candidates-none : {es : List ℕ} {c : ℕ} → Candidates es c 0 0 → entry_of es c ≡ none
+pub candidates-none : {es : List ℕ} {c : ℕ} → Candidates es c 0 0 → entry_of es c ≡ None
 candidates-none {es} {c} a = entry_of-none es c (λ k l e. omega (arith, a.above k (omega arith) l))
 
 -- entry `middle` is at or below: those from it on are left
@@ -45,7 +45,7 @@ module _ {es : List ℕ} (up : Ascending es) {c low size : ℕ} (a : Candidates 
   }
 
   -- one is left, and it is another's: the code point has no entry
-  pub candidates-other : 0 < size → size ≤ 1 → (code_at es low ≡ c → ⊥) → entry_of es c ≡ none
+  pub candidates-other : 0 < size → size ≤ 1 → (code_at es low ≡ c → ⊥) → entry_of es c ≡ None
   candidates-other h l ne = entry_of-none es c other
     where
       other : (k : ℕ) → k < entry_count es → code_at es k ≡ c → ⊥

@@ -3,7 +3,7 @@
 use Prim.Native.Nat.{ℕ, ◌+◌, ◌*◌, ◌<◌}
 use native.Mathlib.Omega.{arith}
 use mathlib.Core.Path.{◌≡◌}
-use mathlib.Core.Option.{none, some}
+use Rattle.std.specs.Prelude.{None, Some}
 use mathlib.Core.List.{List}
 use lib.ListN.{length, length-take, length-drop}
 use Rattle.table.specs.Layout.{entry_width, entry_count, start_at, count_at}
@@ -16,7 +16,7 @@ pub number-within : (es : List ℕ) (i j : ℕ) → i < entry_count es → j < e
 unfolding entry_count
 number-within es i j l h = omega arith
 
-module _ (t : Table) (form : form_refusal t ≡ none) where
+module _ (t : Table) (form : form_refusal t ≡ None) where
   -- the entry slice is its entries: nothing is left over
   pub entries-whole : entry_count t.entries * entry_width ≡ length t.entries
   entries-whole = length_whole t.entries (sound-whole t (formed t form).size)
@@ -27,5 +27,5 @@ module _ (t : Table) (form : form_refusal t ≡ none) where
   part-within i j l m = omega (arith, formed-fits t form i l)
 
   -- so the decomposition that an entry says has as many code points as its count
-  pub length-parts_in : (i : ℕ) → i < entry_count t.entries → length (parts_in t (some i)) ≡ count_at t.entries i
+  pub length-parts_in : (i : ℕ) → i < entry_count t.entries → length (parts_in t (Some i)) ≡ count_at t.entries i
   length-parts_in i l = let fits = formed-fits t form i l in simp (length-take, length-drop) (omega arith)

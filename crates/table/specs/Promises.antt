@@ -1,15 +1,7 @@
--- The place that a search answers, and what the functions on a table of the form ask for.
+-- What the functions on a table of the form ask for.
 -- Assumes nothing.
 use Rattle.std.specs.Prelude.{ℕ, suc, ◌+◌, ◌<◌, ◌≤◌, List}
-use Rattle.std.proofs.Math.Option.{Option, none, some}
 use Rattle.table.specs.Layout.{entry_count, code_at}
-use Rattle.table.specs.declared.Place.{Place}
-use Rattle.table.specs.declared.Place.TheVariants.{At, Nowhere}
-
--- the place that was found, if there is one
-abbrev pub place_found : Place → Option ℕ
-place_found (At i) = some i
-place_found Nowhere = none
 
 -- the code points of the entries ascend
 abbrev pub Ascending : List ℕ → Type 0

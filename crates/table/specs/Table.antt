@@ -2,7 +2,7 @@
 -- Sums are of plain numbers: nothing wraps.
 -- Assumes nothing.
 use Rattle.std.specs.Prelude.{ℕ, zero, suc, ◌+◌, Bool, false, ◌&&◌, ◌||◌, not, List, [], ◌∷◌, leb, ltb, eqb, length, get_or, take, drop}
-use Rattle.std.proofs.Math.Option.{Option, none, some}
+use Rattle.std.specs.Prelude.{Option, None, Some}
 use Rattle.terms.specs.CodePoints.{scalar}
 use Rattle.terms.specs.Lists.{lowest, or_else, when}
 use Rattle.terms.specs.Refusals.{entries_most, pool_most, parts_most, refusal, check, first}
@@ -65,8 +65,8 @@ faulty_number pool j = not (scalar (get_or pool j 0))
 
 -- a check whose detail is the lowest place of a fault, if there is one
 abbrev pub refused_at : ℕ → Option ℕ → Option Refusal
-refused_at number none = none
-refused_at number (some i) = some (refusal number 0 i)
+refused_at number None = None
+refused_at number (Some i) = Some (refusal number 0 i)
 
 -- where 5 finds a fault: "lowest such entry; if no entry is faulty, the number of entries"
 abbrev pub entry_fault : Table → Option ℕ
@@ -94,13 +94,13 @@ entry_of es c = lowest (λ i. eqb (code_at es i) c) (entry_count es)
 
 -- the titlecase that an entry says; "A code point without an entry maps to itself"
 abbrev pub title_in : List ℕ → ℕ → Option ℕ → ℕ
-title_in es c none = c
-title_in es c (some i) = title_at es i
+title_in es c None = c
+title_in es c (Some i) = title_at es i
 
 -- "Its decomposition is that many code points of the pool; count 0 means none"
 abbrev pub parts_in : Table → Option ℕ → List ℕ
-parts_in t none = []
-parts_in t (some i) = take (count_at t.entries i) (drop (start_at t.entries i) t.pool)
+parts_in t None = []
+parts_in t (Some i) = take (count_at t.entries i) (drop (start_at t.entries i) t.pool)
 
 -- the titlecase of a code point, and the decomposition that its entry says
 abbrev pub title_of : List ℕ → ℕ → ℕ

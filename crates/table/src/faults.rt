@@ -5,36 +5,28 @@ ghost use Rattle.terms.specs.Lists.{lowest};
 ghost use Rattle.terms.specs.Refusals.{entries_most};
 ghost use Rattle.table.specs.Layout.{entry_count};
 ghost use Rattle.table.specs.Table.{table, counts_below, faulty_size, faulty_code, faulty_entry, entry_fault, faulty_number};
-ghost use Rattle.table.specs.Promises.{place_found};
 
-use crate::{Place, layout};
+use crate::layout;
 
 // Whether a slice has a length that 3 refuses.
 pub fn is_faulty_size(entries: &[u32], pool: &[u32]) -> bool
     ensures { result ≡ faulty_size (table entries.now pool.now) }
 {
-    if !layout::has_whole_entries(entries) {
-        return true;
-    }
-    if terms::ENTRIES_MOST < layout::entry_count(entries) {
-        return true;
-    }
-    terms::POOL_MOST < pool.len()
+    !layout::has_whole_entries(entries)
+        || terms::ENTRIES_MOST < layout::entry_count(entries)
+        || terms::POOL_MOST < pool.len()
 }
 
 // The lowest entry that 4 refuses.
-pub fn faulty_code(entries: &[u32]) -> Place
-    ensures { place_found result ≡ lowest (faulty_code entries.now) (entry_count entries.now) }
+pub fn faulty_code(entries: &[u32]) -> Option<usize>
+    ensures { result ≡ lowest (faulty_code entries.now) (entry_count entries.now) }
 {
-    let count = layout::entry_count(entries);
-    let mut i = 0;
-    while i < count {
+    for i in 0..layout::entry_count(entries) {
         if is_faulty_code(entries, i) {
-            return Place::At(i);
+            return Some(i);
         }
-        i += 1;
     }
-    Place::Nowhere
+    None
 }
 
 // Whether 4 refuses an entry.
@@ -42,43 +34,28 @@ fn is_faulty_code(entries: &[u32], i: usize) -> bool
     requires { i < entry_count entries.now }
     ensures { result ≡ faulty_code entries.now i }
 {
-    let c = layout::code_at(entries, i);
-    if !terms::is_scalar(c.0) {
-        return true;
-    }
+    let code = layout::code_at(entries, i);
     let title = layout::title_at(entries, i);
-    if !terms::is_scalar(title.0) {
-        return true;
-    }
-    if hangul::is_syllable(c) {
-        return true;
-    }
-    if i == 0 {
-        return false;
-    }
-    let before = layout::code_at(entries, i - 1);
-    c.0 <= before.0
+    !terms::is_scalar(code.0)
+        || !terms::is_scalar(title.0)
+        || hangul::is_syllable(code)
+        || (i != 0 && code.0 <= layout::code_at(entries, i - 1).0)
 }
 
 // Where 5 finds a fault: the lowest entry, or the number of entries if the pool is longer than all counts.
-pub fn faulty_entry(entries: &[u32], pool: &[u32]) -> Place
+pub fn faulty_entry(entries: &[u32], pool: &[u32]) -> Option<usize>
     requires { entry_count entries.now ≤ entries_most }
-    ensures { place_found result ≡ entry_fault (table entries.now pool.now) }
+    ensures { result ≡ entry_fault (table entries.now pool.now) }
 {
     let count = layout::entry_count(entries);
     let mut sum: usize = 0;
-    let mut i = 0;
-    while i < count {
+    for i in 0..count {
         if is_faulty_entry(entries, pool, i, sum) {
-            return Place::At(i);
+            return Some(i);
         }
         sum += layout::count_at(entries, i) as usize;
-        i += 1;
     }
-    if sum < pool.len() {
-        return Place::At(i);
-    }
-    Place::Nowhere
+    if sum < pool.len() { Some(count) } else { None }
 }
 
 // Whether 5 refuses an entry, `sum` being the sum of all earlier counts.
@@ -89,33 +66,15 @@ fn is_faulty_entry(entries: &[u32], pool: &[u32], i: usize, sum: usize) -> bool
 {
     let start = layout::start_at(entries, i) as usize;
     let count = layout::count_at(entries, i) as usize;
-    if terms::PARTS_MOST < count {
-        return true;
-    }
-    if start != sum {
-        return true;
-    }
-    if pool.len() < start + count {
-        return true;
-    }
-    if count != 0 {
-        return false;
-    }
-    let title = layout::title_at(entries, i);
-    let code = layout::code_at(entries, i);
-    title.0 == code.0
+    terms::PARTS_MOST < count
+        || start != sum
+        || pool.len() < start + count
+        || (count == 0 && layout::title_at(entries, i).0 == layout::code_at(entries, i).0)
 }
 
 // The lowest pool number that 6 refuses.
-pub fn faulty_number(pool: &[u32]) -> Place
-    ensures { place_found result ≡ lowest (faulty_number pool.now) (length pool.now) }
+pub fn faulty_number(pool: &[u32]) -> Option<usize>
+    ensures { result ≡ lowest (faulty_number pool.now) (length pool.now) }
 {
-    let mut i = 0;
-    while i < pool.len() {
-        if !terms::is_scalar(pool[i]) {
-            return Place::At(i);
-        }
-        i += 1;
-    }
-    Place::Nowhere
+    pool.iter().position(|&number| !terms::is_scalar(number))
 }

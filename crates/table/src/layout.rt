@@ -12,6 +12,7 @@ use terms::CodePoint;
 pub const ENTRY_WIDTH: usize = 4;
 
 // The number of whole entries.
+#[tactic(auto, unfolding(crate::specs::Layout::entry_count))]
 pub fn entry_count(entries: &[u32]) -> usize
     ensures { result ≡ entry_count entries.now }
 {
@@ -19,6 +20,7 @@ pub fn entry_count(entries: &[u32]) -> usize
 }
 
 // Whether there is no whole entry. Not by the count: the compiler would read the length twice.
+#[tactic(auto, unfolding(crate::specs::Layout::entry_count))]
 pub fn has_no_entry(entries: &[u32]) -> bool
     ensures { result ≡ eqb (entry_count entries.now) 0 }
 {
@@ -26,6 +28,7 @@ pub fn has_no_entry(entries: &[u32]) -> bool
 }
 
 // Whether a slice is whole entries, and nothing is left over.
+#[tactic(auto, unfolding(crate::specs::Layout::whole_entries))]
 pub fn has_whole_entries(entries: &[u32]) -> bool
     ensures { result ≡ whole_entries entries.now }
 {
@@ -65,6 +68,7 @@ pub fn count_at(entries: &[u32], i: usize) -> u32
 }
 
 // Writes an entry.
+#[tactic(auto, unfolding(crate::specs::Layout::entry_count, crate::specs::Layout::put_entry))]
 pub fn put_entry(
     entries: &mut [u32],
     i: usize,
@@ -77,13 +81,11 @@ pub fn put_entry(
     ensures { entries.new ≡ put_entry i (entry code.0 title.0 start count) entries.old }
 {
     let at = i * ENTRY_WIDTH;
-    entries[at] = code.0;
-    entries[at + 1] = title.0;
-    entries[at + 2] = start;
-    entries[at + 3] = count;
+    entries[at..at + ENTRY_WIDTH].copy_from_slice(&[code.0, title.0, start, count]);
 }
 
 // The first n entries.
+#[tactic(auto, unfolding(crate::specs::Layout::entry_count, crate::specs::Layout::first_entries))]
 pub fn first_entries<'a>(entries: &'a [u32], n: usize) -> &'a [u32]
     requires { n ≤ entry_count entries.now }
     ensures { result.now ≡ first_entries n entries.now }
@@ -93,6 +95,7 @@ pub fn first_entries<'a>(entries: &'a [u32], n: usize) -> &'a [u32]
 }
 
 // Number j of an entry.
+#[tactic(auto, unfolding(crate::specs::Layout::entry_count, crate::specs::Layout::number_at))]
 fn number_at(entries: &[u32], i: usize, j: usize) -> u32
     requires i_bound { i < entry_count entries.now }
     requires j_lt_entry_width { j < entry_width }

@@ -8,55 +8,49 @@ mod faults;
 pub mod layout;
 
 ghost use Rattle.std.specs.Prelude.{◌≡◌, [], ◌<◌};
-ghost use Rattle.std.proofs.Math.Option.{none, some};
+ghost use Rattle.std.specs.Prelude.{None, Some};
 ghost use Rattle.terms.specs.Refusals.{refusal, answer, check_outcome};
 ghost use Rattle.table.specs.Layout.{entry_count};
 ghost use Rattle.table.specs.Table.{table, form_refusal, entry_of, parts_in, entry_parts};
-ghost use Rattle.table.specs.Promises.{place_found, Ascending, Candidates};
+ghost use Rattle.table.specs.Promises.{Ascending, Candidates};
+ghost use Rattle.terms.specs.Reasons.{reason_number};
 
-use terms::{Check, CodePoint, Refusal};
-
-// Where something is, counted from 0, if it is anywhere.
-#[derive(Clone, Copy)]
-pub enum Place {
-    At(usize),
-    Nowhere,
-}
+use terms::{CodePoint, Reason, Refusal};
 
 // Whether two slices have the form of a table: one of 3 to 6, or accepted so far.
-pub fn check_form(entries: &[u32], pool: &[u32]) -> Check
+pub fn check_form(entries: &[u32], pool: &[u32]) -> Result<(), Refusal>
     ensures { check_outcome result ≡ answer (form_refusal (table entries.now pool.now)) [] }
 {
     if faults::is_faulty_size(entries, pool) {
-        return Check::Refused(Refusal {
-            number: terms::REFUSED_TABLE_SIZE,
+        return Err(Refusal {
+            reason: Reason::TableSize,
             place: 0,
             detail: 0,
         });
     }
-    if let Place::At(i) = faults::faulty_code(entries) {
-        return refused_at(terms::REFUSED_CODE_POINT, i);
+    if let Some(i) = faults::faulty_code(entries) {
+        return Err(refused_at(Reason::CodePoint, i));
     }
-    if let Place::At(i) = faults::faulty_entry(entries, pool) {
-        return refused_at(terms::REFUSED_ENTRY, i);
+    if let Some(i) = faults::faulty_entry(entries, pool) {
+        return Err(refused_at(Reason::Entry, i));
     }
-    if let Place::At(i) = faults::faulty_number(pool) {
-        return refused_at(terms::REFUSED_POOL_NUMBER, i);
+    if let Some(i) = faults::faulty_number(pool) {
+        return Err(refused_at(Reason::PoolNumber, i));
     }
-    Check::Passed
+    Ok(())
 }
 
 // The decomposition that the entry of a code point says, as a part of the pool; empty if it has none. By a search, for the check of
 // a table, which comes before its pages.
 pub fn entry_parts<'a>(entries: &[u32], pool: &'a [u32], c: CodePoint) -> &'a [u32]
-    requires { form_refusal (table entries.now pool.now) ≡ none }
+    requires { form_refusal (table entries.now pool.now) ≡ None }
     ensures { result.now ≡ entry_parts (table entries.now pool.now) c.0 }
 {
     let count = within_reach(entries, c);
     if count == 0 {
         return &pool[..0];
     }
-    if let Place::At(i) = find_among(entries, c, 0, count) {
+    if let Some(i) = find_among(entries, c, 0, count) {
         return parts_at(entries, pool, i);
     }
     &pool[..0]
@@ -64,9 +58,9 @@ pub fn entry_parts<'a>(entries: &[u32], pool: &'a [u32], c: CodePoint) -> &'a [u
 
 // The decomposition that an entry says, as a part of the pool.
 pub fn parts_at<'a>(entries: &[u32], pool: &'a [u32], i: usize) -> &'a [u32]
-    requires pool_value { form_refusal (table entries.now pool.now) ≡ none }
+    requires pool_value { form_refusal (table entries.now pool.now) ≡ None }
     requires i_bound { i < entry_count entries.now }
-    ensures { result.now ≡ parts_in (table entries.now pool.now) (some i) }
+    ensures { result.now ≡ parts_in (table entries.now pool.now) (Some i) }
 {
     let start = layout::start_at(entries, i) as usize;
     let end = start + layout::count_at(entries, i) as usize;
@@ -74,14 +68,14 @@ pub fn parts_at<'a>(entries: &[u32], pool: &'a [u32], i: usize) -> &'a [u32]
 }
 
 // A refusal that names a place.
-pub fn refused_at(number: u32, i: usize) -> Check
-    ensures { result ≡ Check.Refused (refusal number 0 i) }
+pub fn refused_at(reason: Reason, i: usize) -> Refusal
+    ensures { result ≡ refusal (reason_number reason) 0 i }
 {
-    Check::Refused(Refusal {
-        number,
+    Refusal {
+        reason,
         place: 0,
         detail: i as u64,
-    })
+    }
 }
 
 // How many entries can be the one of a code point or stand before it: the code points ascend, so none is further from the first
@@ -98,20 +92,17 @@ fn within_reach(entries: &[u32], sought: CodePoint) -> usize
         return 0;
     }
     let reach = (sought.0 - least.0) as usize + 1;
-    let count = layout::entry_count(entries);
-    if reach < count {
-        return reach;
-    }
-    count
+    reach.min(layout::entry_count(entries))
 }
 
 // The entry of a code point among the `size` from `low` on. A turn asks one question, not also whether this is the one: parts are
-// the same letters and marks again and again, and their ways are soon foreseen.
-fn find_among(entries: &[u32], sought: CodePoint, low: usize, size: usize) -> Place
+// the same letters and marks again and again, and their ways are soon foreseen. Not by `partition_point`: an entry is four numbers
+// of a flat slice (the C interface), which no slice of std has as one element.
+fn find_among(entries: &[u32], sought: CodePoint, low: usize, size: usize) -> Option<usize>
     requires ascending { Ascending entries.now }
     requires size_nonzero { 0 < size }
     requires candidates { Candidates entries.now sought.0 low size }
-    ensures { place_found result ≡ entry_of entries.now sought.0 }
+    ensures { result ≡ entry_of entries.now sought.0 }
 {
     let mut first = low;
     let mut left = size;
@@ -126,7 +117,8 @@ fn find_among(entries: &[u32], sought: CodePoint, low: usize, size: usize) -> Pl
     }
     let found = layout::code_at(entries, first);
     if found.0 == sought.0 {
-        return Place::At(first);
+        Some(first)
+    } else {
+        None
     }
-    Place::Nowhere
 }

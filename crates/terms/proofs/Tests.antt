@@ -2,7 +2,7 @@
 -- Assumes nothing.
 use mathlib.Core.Path.{◌≡◌}
 use mathlib.Core.Bool.{Bool, true, ◌&&◌, and-eq-true_iff}
-use mathlib.Core.Option.{none, some}
+use Rattle.std.specs.Prelude.{None, Some}
 use Prim.Native.Nat.{ℕ}
 use native.Mathlib.Omega.{arith}
 
@@ -15,5 +15,5 @@ pub join : (a b : Bool) → a ≡ true → b ≡ true → a && b ≡ true
 join a b p q = (and-eq-true_iff a b).1 (p, q)
 
 -- nothing is no value
-pub none-some {ℓ} : {A : Type ℓ} (a : A) → none ≡ some a → ⊥
+pub none-some : {A : Type 0} (a : A) → None ≡ Some a → ⊥
 none-some a e = let z : ◌≡◌ {A = ℕ} 0 1 = cc in omega arith

@@ -2,7 +2,7 @@
 -- passes a test, a list of lists as one, two lists compared, and a buffer after something was written into it.
 -- Assumes nothing.
 use Rattle.std.specs.Prelude.{◌≡◌, ℕ, zero, suc, ◌+◌, Bool, true, false, ◌&&◌, List, [], ◌∷◌, ◌++◌, eqb, length, take, drop}
-use Rattle.std.proofs.Math.Option.{Option, none, some}
+use Rattle.std.specs.Prelude.{Option, None, Some}
 
 -- the test holds of every element
 abbrev pub all {ℓ} : {A : Type ℓ} → (A → Bool) → List A → Bool
@@ -15,23 +15,23 @@ empty [] = true
 empty (x ∷ xs) = false
 
 -- there is a value
-abbrev pub there {ℓ} : {A : Type ℓ} → Option A → Bool
-there none = false
-there (some a) = true
+abbrev pub there : {A : Type 0} → Option A → Bool
+there None = false
+there (Some a) = true
 
 -- the first of two that is there
-abbrev pub or_else {ℓ} : {A : Type ℓ} → Option A → Option A → Option A
-or_else none b = b
-or_else (some a) b = some a
+abbrev pub or_else : {A : Type 0} → Option A → Option A → Option A
+or_else None b = b
+or_else (Some a) b = Some a
 
 -- the number where the test holds, and else nothing
-abbrev pub when {ℓ} : {A : Type ℓ} → Bool → A → Option A
-when true a = some a
-when false a = none
+abbrev pub when : {A : Type 0} → Bool → A → Option A
+when true a = Some a
+when false a = None
 
 -- the lowest number below n at which the test holds: every "lowest such entry" and "lowest index" of document 01
 unfoldable pub lowest : (ℕ → Bool) → ℕ → Option ℕ
-lowest test zero = none
+lowest test zero = None
 lowest test (suc n) = or_else (lowest test n) (when (test n) n)
 
 -- one after another: what each element of a list becomes, joined

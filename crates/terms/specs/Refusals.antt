@@ -1,11 +1,8 @@
 -- Refusals, the limits and numbers of documents 01 and 02, and answers in the papers' numbers.
 -- Assumes nothing.
-use Rattle.std.specs.Prelude.{ℕ, Bool, List, [], ◌∷◌, replicate}
-use Rattle.std.proofs.Math.Option.{Option, none, some}
+use Rattle.std.specs.Prelude.{ℕ, Bool, List, [], ◌∷◌, replicate, ⊤, Option, None, Some, Result, Ok, Err}
 use Rattle.terms.specs.Lists.{or_else, when}
 use Rattle.terms.specs.declared.Refusal.{Refusal}
-use Rattle.terms.specs.declared.Check.{Check}
-use Rattle.terms.specs.declared.Check.TheVariants.{Passed, Refused}
 
 -- ---- limits
 
@@ -66,13 +63,8 @@ check applies n p d = when applies (refusal n p d)
 
 -- "Checks run in this order; the first that applies is given"
 abbrev pub first : List (Option Refusal) → Option Refusal
-first [] = none
+first [] = None
 first (c ∷ cs) = or_else c (first cs)
-
--- the refusal that a check answers, if it is one
-abbrev pub check_refusal : Check → Option Refusal
-check_refusal Passed = none
-check_refusal (Refused r) = some r
 
 -- ---- answers
 
@@ -88,13 +80,17 @@ Given (gives values) = Unit {0}
 
 -- the answer of a call: the refusal if a check applies, and else the values
 abbrev pub answer : Option Refusal → List ℕ → Outcome
-answer none values = gives values
-answer (some r) values = refused r
+answer None values = gives values
+answer (Some r) values = refused r
+
+-- an answer in the paper's numbers: the refusal, or those of the value
+abbrev pub outcome : {A : Type 0} → (A → List ℕ) → Result A Refusal → Outcome
+outcome values (Ok a) = gives (values a)
+outcome values (Err r) = refused r
 
 -- a check's answer: passed has no value
-abbrev pub check_outcome : Check → Outcome
-check_outcome Passed = gives []
-check_outcome (Refused r) = refused r
+abbrev pub check_outcome : Result ⊤ Refusal → Outcome
+check_outcome r = outcome (λ _. []) r
 
 -- an answer of n values as one row of numbers: number (0 if not refused), place, detail, values;
 -- on a refusal "every other field of the answer is 0"

@@ -5,9 +5,13 @@
 
 #![tactic(auto)]
 
-ghost use Rattle.std.specs.Prelude.{◌≡◌};
+ghost use Rattle.std.specs.Prelude.{◌≡◌, ◌-◌, ◌≤◌};
 ghost use Rattle.terms.specs.CodePoints.{scalar};
-ghost use Rattle.terms.specs.Collations.{collation_of, reads_table, collation_named};
+ghost use Rattle.terms.specs.Reasons.{reason_number};
+ghost use Rattle.terms.specs.Refusals.{refused, row};
+ghost use Rattle.terms.specs.Collations.{collation_of, reads_table};
+
+use std::marker::Model;
 
 // A code point's number: "Code point numbers and octet positions are counted apart".
 #[derive(Clone, Copy)]
@@ -25,23 +29,123 @@ pub struct TextPosition(pub usize);
 #[derive(Clone, Copy)]
 pub struct RecordPosition(pub usize);
 
-// Why a call is refused: its number in documents 01 and 02, which text or list (1 or 2, 0 neither), and the detail.
+// What a call is refused for, by its number in documents 01 and 02.
+#[derive(Clone, Copy, PartialEq, Eq, Debug)]
+pub enum Reason {
+    // 1: the number names no collation
+    Collation,
+    // 2: a text is too long
+    TextLength,
+    // 3: a slice of the table has a wrong length
+    TableSize,
+    // 4: a code point or titlecase of an entry
+    CodePoint,
+    // 5: an entry, or what is left of the pool
+    Entry,
+    // 6: a pool number
+    PoolNumber,
+    // 7: the levels or the size of what a code point unfolds into
+    Level,
+    // 8: a slice that is lent for an answer is too short
+    Room,
+    // 9: a line of the program has no tab
+    NoTab,
+    // 11: the length of a record
+    RecordLength,
+    // 12: its kind
+    RecordKind,
+    // 13: its body
+    RecordBody,
+    // 14: too many names, or ends of octet strings
+    Count,
+    // 15: a page slice is too short
+    Pages,
+    // 20: a line is too long
+    LineLength,
+    // 21: a line has another number of fields
+    FieldCount,
+    // 22: field 0 is malformed
+    Field0,
+    // 23: field 5 is
+    Field5,
+    // 24: field 14 is
+    Field14,
+    // 25: a surrogate, or a syllable, with a mapping
+    Surrogate,
+    // 26: a code point that is not above the last
+    Order,
+    // 27: no room in the table
+    TableRoom,
+    // 28: a state that no line can have left
+    State,
+    // 29: field 12 is malformed
+    Field12,
+    // 36: an end of an octet string
+    End,
+    // 37: fewer ends than names of the first list
+    FirstCount,
+}
+
+impl Reason {
+    // Its number.
+    pub fn number(self) -> u32
+        ensures { result ≡ reason_number self }
+    {
+        match self {
+            Reason::Collation => 1,
+            Reason::TextLength => 2,
+            Reason::TableSize => 3,
+            Reason::CodePoint => 4,
+            Reason::Entry => 5,
+            Reason::PoolNumber => 6,
+            Reason::Level => 7,
+            Reason::Room => 8,
+            Reason::NoTab => 9,
+            Reason::RecordLength => 11,
+            Reason::RecordKind => 12,
+            Reason::RecordBody => 13,
+            Reason::Count => 14,
+            Reason::Pages => 15,
+            Reason::LineLength => 20,
+            Reason::FieldCount => 21,
+            Reason::Field0 => 22,
+            Reason::Field5 => 23,
+            Reason::Field14 => 24,
+            Reason::Surrogate => 25,
+            Reason::Order => 26,
+            Reason::TableRoom => 27,
+            Reason::State => 28,
+            Reason::Field12 => 29,
+            Reason::End => 36,
+            Reason::FirstCount => 37,
+        }
+    }
+}
+
+// Why a call is refused: the reason, which text or list (1 or 2, 0 neither), and the detail. Clauses see the reason's number.
 #[derive(Clone, Copy)]
 pub struct Refusal {
-    pub number: u32,
+    pub reason: Reason,
     pub place: u32,
     pub detail: u64,
 }
 
-// What a check answers.
-#[derive(Clone, Copy)]
-pub enum Check {
-    Passed,
-    Refused(Refusal),
+impl Model for Refusal {
+    ghost use Rattle.terms.specs.Reasons.{Refused};
+
+    ghost Value = { Refused };
+
+    ghost use Rattle.terms.specs.Views.{refused_by, refusing, refusing-refused_by};
+
+    ghost view = { refused_by };
+
+    ghost inverse = { refusing };
+
+    ghost inverse_ok = { λ a _. refusing-refused_by a };
 }
 
 // The collations of document 01. A number becomes one by `collation_of` alone.
-#[derive(Clone, Copy)]
+#[derive(Clone, Copy, PartialEq, Eq, Debug)]
 pub enum Collation {
     // i;octet
     Octet,
@@ -49,14 +153,6 @@ pub enum Collation {
     AsciiCasemap,
     // i;unicode-casemap
     UnicodeCasemap,
-}
-
-// What a number names.
-#[derive(Clone, Copy)]
-pub enum CollationName {
-    Known(Collation),
-    // No collation has the number.
-    Unknown,
 }
 
 // The collations' numbers.
@@ -92,112 +188,40 @@ pub const ENDS_MOST: usize = 4294967295;
 // The numbers of a page slice that are filled: one for each page of 64 code points.
 pub const PAGES_MOST: usize = 17408;
 
-// The kinds of record.
-pub const KIND_TEXT: u32 = 1;
-
-pub const KIND_KEY: u32 = 2;
-
-// The refusal numbers of document 01 and of the requests after it.
-pub const REFUSED_COLLATION: u32 = 1;
-
-pub const REFUSED_TEXT_LENGTH: u32 = 2;
-
-pub const REFUSED_TABLE_SIZE: u32 = 3;
-
-pub const REFUSED_CODE_POINT: u32 = 4;
-
-pub const REFUSED_ENTRY: u32 = 5;
-
-pub const REFUSED_POOL_NUMBER: u32 = 6;
-
-pub const REFUSED_LEVEL: u32 = 7;
-
-pub const REFUSED_KEY_ROOM: u32 = 8;
-
-pub const REFUSED_NO_TAB: u32 = 9;
-
-pub const REFUSED_RECORD_LENGTH: u32 = 11;
-
-pub const REFUSED_RECORD_KIND: u32 = 12;
-
-pub const REFUSED_RECORD_BODY: u32 = 13;
-
-// 8 again: no room for a whole record.
-pub const REFUSED_RECORD_ROOM: u32 = 8;
-
-pub const REFUSED_NAME_COUNT: u32 = 14;
-
-// 8 again: no room for the keys of two lists, or for the numbers of the first list's names.
-pub const REFUSED_LIST_ROOM: u32 = 8;
-
-pub const REFUSED_PAGES: u32 = 15;
-
-pub const REFUSED_LINE_LENGTH: u32 = 20;
-
-pub const REFUSED_FIELD_COUNT: u32 = 21;
-
-pub const REFUSED_FIELD_0: u32 = 22;
-
-pub const REFUSED_FIELD_5: u32 = 23;
-
-pub const REFUSED_FIELD_14: u32 = 24;
-
-pub const REFUSED_SURROGATE: u32 = 25;
-
-pub const REFUSED_ORDER: u32 = 26;
-
-pub const REFUSED_NO_ROOM: u32 = 27;
-
-pub const REFUSED_STATE: u32 = 28;
-
-pub const REFUSED_FIELD_12: u32 = 29;
-
-// 14 again: more ends of octet strings than are taken.
-pub const REFUSED_END_COUNT: u32 = 14;
-
-pub const REFUSED_END: u32 = 36;
-
-pub const REFUSED_FIRST_COUNT: u32 = 37;
-
-// 8 again: no room for the keys of many texts, for their ends or validity, or for the numbers of keys.
-pub const REFUSED_MANY_ROOM: u32 = 8;
-
 // Whether a number is a scalar code point.
 pub fn is_scalar(c: u32) -> bool
     ensures { result ≡ scalar c }
 {
-    if c < 0xD800 {
-        return true;
-    }
-    if c <= 0xDFFF {
-        return false;
-    }
-    c <= 0x10FFFF
+    matches!(c, 0..=0xD7FF | 0xE000..=0x10FFFF)
 }
 
-// The collation that a number names.
-pub fn collation_of(number: u32) -> CollationName
-    ensures { collation_named result ≡ collation_of number }
+// The collation that a number names, if it names one.
+pub fn collation_of(number: u32) -> Option<Collation>
+    ensures { result ≡ collation_of number }
 {
-    if number == OCTET {
-        return CollationName::Known(Collation::Octet);
+    match number {
+        OCTET => Some(Collation::Octet),
+        ASCII_CASEMAP => Some(Collation::AsciiCasemap),
+        UNICODE_CASEMAP => Some(Collation::UnicodeCasemap),
+        _ => None,
     }
-    if number == ASCII_CASEMAP {
-        return CollationName::Known(Collation::AsciiCasemap);
-    }
-    if number == UNICODE_CASEMAP {
-        return CollationName::Known(Collation::UnicodeCasemap);
-    }
-    CollationName::Unknown
 }
 
 // Whether a collation reads the table.
 pub fn reads_table(collation: Collation) -> bool
     ensures { result ≡ reads_table collation }
 {
-    match collation {
-        Collation::Octet => false,
-        Collation::AsciiCasemap => false,
-        Collation::UnicodeCasemap => true,
-    }
+    matches!(collation, Collation::UnicodeCasemap)
+}
+
+// The row of a refused call, of any length: refusal number, place and detail, and 0 for every value.
+pub fn refused_row<const N: usize>(r: Refusal) -> [u64; N]
+    requires { 3 ≤ N }
+    ensures { result ≡ row (N - 3) (refused r) }
+{
+    let mut row = [0; N];
+    row[0] = r.reason.number() as u64;
+    row[1] = r.place as u64;
+    row[2] = r.detail;
+    row
 }

@@ -1,140 +1,92 @@
--- The walk over the parts of field 5: the code points so far stand in the slice, and those of the pieces that are left follow.
+-- The parts of field 5: the code points of the pieces so far stand in the slice. And which case of `decomposition` holds.
 -- Assumes nothing.
-use mathlib.Core.Path.{◌≡◌, refl, sym, ◌∙◌, ap}
-use Prim.Native.Nat.{ℕ, ◌+◌, ◌≤◌, ◌<◌}
-use native.Mathlib.Numerals.{add-one}
+use mathlib.Core.Path.{◌≡◌, refl, sym, ap}
+use Prim.Native.Nat.{ℕ, zero, suc, ◌+◌, ◌≤◌, ◌<◌}
 use native.Mathlib.Omega.{arith}
 use mathlib.Core.Bool.{Bool, true, false, cond, ◌&&◌, and-false}
-use mathlib.Core.Option.{Option, none, some, map, bind}
-use mathlib.Core.List.{List, [], ◌∷◌, ◌++◌, append-nil}
+use Rattle.std.specs.Prelude.{Option, None, Some, option_map, option_and_then}
+use mathlib.Core.List.{List, [], ◌∷◌, ◌++◌}
 use lib.Dec.{leb}
-use lib.ListN.{length, take, drop, set}
-use lib.Seq.{append_snoc, take-suc-set}
+use lib.ListN.{length, take, drop, set, get_or}
+use Rattle.std.proofs.lemmas.List.{take_all, take_more, take_more_set}
 use borrow.Author.Tests.{le-leb, lt-leb}
 use Rattle.terms.specs.Refusals.{parts_most}
 use Rattle.ucd.specs.Fields.{cut, code_point, code_points, tag, untagged, some_parts, decomposition}
 use Rattle.ucd.specs.Promises.{piece_end}
+use Rattle.ucd.proofs.Options.{both-some, made-some}
 use Rattle.ucd.proofs.Walks.{empty-yes, empty-no}
-use Rattle.ucd.proofs.Cutting.{after, cut_step, cut-last, cut-more, cut-next, Stands, stands-first, stands-more}
-use Rattle.ucd.proofs.Cutting.{stands-count, stands-end}
+use Rattle.ucd.proofs.Cutting.{cut_step, cut-last, cut-more}
 
--- ---- code points before others
+-- ---- the code points of pieces
 
--- the code points before those of other pieces, if those are there
-abbrev prepend : List ℕ → Option (List ℕ) → Option (List ℕ)
-prepend xs none = none
-prepend xs (some cs) = some (xs ++ cs)
-
-prepend-nil : (o : Option (List ℕ)) → o ≡ prepend [] o
-prepend-nil none = refl
-prepend-nil (some cs) = refl
-
-prepend-snoc : (xs : List ℕ) (c : ℕ) (o : Option (List ℕ)) → prepend xs (map (λ cs. c ∷ cs) o) ≡ prepend (xs ++ (c ∷ [])) o
-prepend-snoc xs c none = refl
-prepend-snoc xs c (some cs) = ap (λ (l : List ℕ). some l) (sym (append_snoc xs c cs))
-
--- the code points of pieces, if the first writes one and if it writes none
-code_points-cons : (p : List ℕ) (ps : List (List ℕ)) (c : ℕ)
-    → code_point p ≡ some c
-    → code_points (p ∷ ps) ≡ map (λ cs. c ∷ cs) (code_points ps)
-unfolding code_points bind
-code_points-cons p ps c e = simp e
-
-code_points-none : (p : List ℕ) (ps : List (List ℕ)) → code_point p ≡ none → code_points (p ∷ ps) ≡ none
-unfolding code_points bind
-code_points-none p ps e = simp e
-
-code_points-nil : code_points [] ≡ some []
+-- a piece that writes none
+code_points-fail : (ps : List (List ℕ)) (i : ℕ) → i < length ps → code_point (get_or ps i []) ≡ None → code_points ps ≡ None
 unfolding code_points
-code_points-nil = refl
-
-some_parts-none : (ps : List (List ℕ)) → code_points ps ≡ none → some_parts ps ≡ none
-some_parts-none ps e = go (leb 1 (length ps) && leb (length ps) parts_most)
+code_points-fail [] i h e = absurd (omega arith)
+code_points-fail (p ∷ ps) zero h e = rw e
+code_points-fail (p ∷ ps) (suc i) h e = go (code_point p) (code_points-fail ps i (omega arith) e)
   where
-    go : (b : Bool) → cond b (code_points ps) none ≡ none
-    go true = e
-    go false = refl
+    go : (o : Option ℕ) → code_points ps ≡ None → option_and_then (λ c. option_map (λ cs. c ∷ cs) (code_points ps)) o ≡ None
+    go None rest = refl
+    go (Some c) rest = rw rest
 
--- ---- the walk
+-- one piece more
+code_points-snoc : (ps : List (List ℕ)) (p : List ℕ) (cs : List ℕ) (c : ℕ) → code_points ps ≡ Some cs → code_point p ≡ Some c
+    → code_points (ps ++ (p ∷ [])) ≡ Some (cs ++ (c ∷ []))
+unfolding code_points
+code_points-snoc [] p cs c e f = let none : [] ≡ cs = cc in rw (f, ← none)
+code_points-snoc (q ∷ qs) p cs c e f =
+    let first = both-some (code_point q) _ e in
+    let rest = made-some _ (code_points qs) first.2 in
+    rw (first.1, code_points-snoc qs p rest.0 c rest.1 f) (ap (λ (l : List ℕ). Some (l ++ (c ∷ []))) rest.2)
 
--- the piece that starts at a place
-abbrev pub piece_at : List ℕ → ℕ → List ℕ
-piece_at t at = take (piece_end 0x20 (drop at t)) (drop at t)
-
--- `count` parts stand in the slice, and a walk stands at the next piece
-pub record Lists (t parts : List ℕ) (at count : ℕ) : Type 0 where
-  pub stands : Stands 0x20 t count at
-  pub listed : code_points (cut 0x20 t) ≡ prepend (take count parts) (code_points (cut 0x20 (drop at t)))
+-- the parts so far stand in the slice
+pub record Lists (ps : List (List ℕ)) (parts : List ℕ) (count : ℕ) : Type 0 where
+  pub within : count ≤ length ps
+  pub listed : code_points (take count ps) ≡ Some (take count parts)
 
 -- at first no part
-pub lists-first : (t parts : List ℕ) → Lists t parts 0 0
-lists-first t parts = record { stands = stands-first 0x20 t; listed = prepend-nil (code_points (cut 0x20 t)) }
+pub lists-first : (ps : List (List ℕ)) (parts : List ℕ) → Lists ps parts 0
+unfolding code_points
+lists-first ps parts = record { within = omega arith; listed = refl }
 
-module _ {t parts : List ℕ} {at count : ℕ} (w : Lists t parts at count) where
-  -- the pieces are as many as were passed, and one or more
-  pieces : (count + 1 ≤ length (cut 0x20 t)) × (length (cut 0x20 t) ≡ count + length (cut 0x20 (drop at t)))
-  pieces =
-      let n : 1 ≤ length (cut 0x20 (drop at t)) = rw (cut_step 0x20 (drop at t)) (omega arith) in
-      omega (arith, stands-count w.stands)
-
-  -- the pieces after the next
-  abbrev rest : List (List ℕ)
-  rest = after 0x20 (drop (piece_end 0x20 (drop at t)) (drop at t))
-
+module _ (ps : List (List ℕ)) where
   -- a piece that writes no code point
-  pub lists-none : code_point (piece_at t at) ≡ none → some_parts (cut 0x20 t) ≡ none
-  lists-none e =
-      some_parts-none (cut 0x20 t)
-      (w.listed
-      ∙ ap (λ (l : List (List ℕ)). prepend (take count parts) (code_points l)) (cut_step 0x20 (drop at t))
-      ∙ ap (prepend (take count parts)) (code_points-none (piece_at t at) rest e))
+  pub lists-none : (count : ℕ) → count < length ps → code_point (get_or ps count []) ≡ None → some_parts ps ≡ None
+  lists-none count h e = go (leb 1 (length ps) && leb (length ps) parts_most)
+    where
+      go : (b : Bool) → cond b (code_points ps) None ≡ None
+      go true = code_points-fail ps count h e
+      go false = refl
 
   -- more pieces than may be
-  pub lists-many : parts_most ≤ count → some_parts (cut 0x20 t) ≡ none
-  lists-many h =
-      let n = length (cut 0x20 t) in
-      simp (lt-leb n parts_most (omega (arith, pieces)), and-false)
+  pub lists-many : parts_most < length ps → some_parts ps ≡ None
+  lists-many h = simp (lt-leb (length ps) parts_most h, and-false)
 
-  module _ (c : ℕ) (room : count < length parts) (e : code_point (piece_at t at) ≡ some c) where
-    -- the parts with one more
-    one_more : (ps : List (List ℕ))
-        → cut 0x20 (drop at t) ≡ piece_at t at ∷ ps
-        → code_points (cut 0x20 t) ≡ prepend (take (count + 1) (set parts count c)) (code_points ps)
-    one_more ps s =
-        let xs = take count parts in
-        let front : xs ++ (c ∷ []) ≡ take (count + 1) (set parts count c) = rw (add-one count)
-        (sym (take-suc-set parts count c room)) in
-        w.listed
-        ∙ ap (λ (l : List (List ℕ)). prepend xs (code_points l)) s
-        ∙ ap (prepend xs) (code_points-cons (piece_at t at) ps c e)
-        ∙ prepend-snoc xs c (code_points ps)
-        ∙ ap (λ (l : List ℕ). prepend l (code_points ps)) front
+  module _ {parts : List ℕ} {count : ℕ} (w : Lists ps parts count) where
+    -- one part more
+    pub lists-more : (c : ℕ) → count < length ps → code_point (get_or ps count []) ≡ Some c → count < length parts
+        → Lists ps (set parts count c) (count + 1)
+    lists-more c h e room = record {
+      within = omega arith;
+      listed =
+          let pieces : take (count + 1) ps ≡ take count ps ++ (get_or ps count [] ∷ []) = take_more ps count [] h in
+          let values : take (count + 1) (set parts count c) ≡ take count parts ++ (c ∷ []) =
+          take_more_set parts count c room in
+          rw (pieces, values) (code_points-snoc (take count ps) (get_or ps count []) (take count parts) c w.listed e);
+    }
 
     -- the last piece
-    pub lists-last : count < parts_most
-        → at + piece_end 0x20 (drop at t) ≡ length t
-        → some (take (count + 1) (set parts count c)) ≡ some_parts (cut 0x20 t)
-    lists-last h end =
-        let n = length (cut 0x20 t) in
-        let xs = take (count + 1) (set parts count c) in
-        let s : cut 0x20 (drop at t) ≡ piece_at t at ∷ [] = stands-end w.stands end in
-        let many : n ≡ count + 1 = pieces.1 ∙ ap (λ (l : List (List ℕ)). count + length l) s in
-        let all_listed : code_points (cut 0x20 t) ≡ some xs =
-        one_more [] s ∙ ap (prepend xs) code_points-nil ∙ ap (λ (l : List ℕ). some l) (append-nil xs) in
-        simp (le-leb 1 n (omega arith), le-leb n parts_most (omega arith)) (sym all_listed)
-
-    -- a piece and its separator
-    pub lists-more : at + piece_end 0x20 (drop at t) < length t
-        → Lists t (set parts count c) (at + piece_end 0x20 (drop at t) + 1) (count + 1)
-    lists-more h = record {
-      stands = stands-more w.stands h;
-      listed = one_more (cut 0x20 (drop (at + piece_end 0x20 (drop at t) + 1) t)) (cut-next 0x20 t at h);
-    }
+    pub lists-all : length ps ≤ count → 0 < count → count ≤ parts_most → Some (take count parts) ≡ some_parts ps
+    lists-all h some most =
+        let n : length ps ≡ count = omega arith in
+        let listed : code_points ps ≡ Some (take count parts) = rw (take_all count ps h) at w.listed in
+        simp (le-leb 1 (length ps) (omega arith), le-leb (length ps) parts_most (omega arith)) (sym listed)
 
 -- ---- field 5
 
 -- an empty field has no parts
-pub decomposition-empty : (t : List ℕ) → length t ≡ 0 → some [] ≡ decomposition t
+pub decomposition-empty : (t : List ℕ) → length t ≡ 0 → Some [] ≡ decomposition t
 unfolding decomposition
 decomposition-empty t e = rw (empty-yes t e)
 
@@ -147,7 +99,7 @@ module _ (t : List ℕ) (ne : length t ≡ 0 → ⊥) where
       rw (empty-no t ne, s)
 
   -- a tag alone
-  pub decomposition-alone : tag (take (piece_end 0x20 t) t) ≡ true → piece_end 0x20 t ≡ length t → none ≡ decomposition t
+  pub decomposition-alone : tag (take (piece_end 0x20 t) t) ≡ true → piece_end 0x20 t ≡ length t → None ≡ decomposition t
   unfolding decomposition
   decomposition-alone e h =
       let s : untagged (cut 0x20 t) ≡ [] = rw (cut-last 0x20 t h) (rw e) in

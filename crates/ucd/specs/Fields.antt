@@ -1,7 +1,7 @@
 -- The fields of a line of UnicodeData.txt: field 0 the code point, 5 the decomposition, 12 the uppercase, 14 the titlecase.
 -- Assumes nothing.
 use Rattle.std.specs.Prelude.{ℕ, suc, ◌+◌, ◌-◌, ◌*◌, Bool, cond, ◌&&◌, ◌||◌, not, List, [], ◌∷◌, leb, eqb, length, get_or, take, drop}
-use Rattle.std.proofs.Math.Option.{Option, none, some, map, bind}
+use Rattle.std.specs.Prelude.{Option, None, Some, option_map, option_and_then}
 use Rattle.terms.specs.Lists.{all, empty, there, when}
 use Rattle.terms.specs.Refusals.{parts_most}
 
@@ -39,13 +39,13 @@ field i line = get_or (fields line) i []
 -- the value of a digit
 abbrev pub digit : ℕ → Option ℕ
 digit o =
-    cond (leb 0x30 o && leb o 0x39) (some (o - 0x30))
-    (cond (leb 0x41 o && leb o 0x46) (some (o - 0x37)) none)
+    cond (leb 0x30 o && leb o 0x39) (Some (o - 0x30))
+    (cond (leb 0x41 o && leb o 0x46) (Some (o - 0x37)) None)
 
 -- the value of digits after the value so far, if each is one
 unfoldable pub digits : ℕ → List ℕ → Option ℕ
-digits n [] = some n
-digits n (o ∷ os) = bind (digit o) (λ d. digits (n * 16 + d) os)
+digits n [] = Some n
+digits n (o ∷ os) = option_and_then (λ d. digits (n * 16 + d) os) (digit o)
 
 -- 4 to 6 octets, and more than four only if the first is not the digit 0
 abbrev pub well_sized : List ℕ → Bool
@@ -53,17 +53,17 @@ well_sized os = eqb (length os) 4 || ((eqb (length os) 5 || eqb (length os) 6) &
 
 -- a value that is at most 10FFFF
 abbrev pub bounded : Option ℕ → Option ℕ
-bounded none = none
-bounded (some v) = when (leb v 0x10FFFF) v
+bounded None = None
+bounded (Some v) = when (leb v 0x10FFFF) v
 
 -- the code point that the octets write, if they write one
 unfoldable pub code_point : List ℕ → Option ℕ
-code_point os = cond (well_sized os) (bounded (digits 0 os)) none
+code_point os = cond (well_sized os) (bounded (digits 0 os)) None
 
 -- the code points that the pieces write, if each writes one
 unfoldable pub code_points : List (List ℕ) → Option (List ℕ)
-code_points [] = some []
-code_points (p ∷ ps) = bind (code_point p) (λ c. map (λ cs. c ∷ cs) (code_points ps))
+code_points [] = Some []
+code_points (p ∷ ps) = option_and_then (λ c. option_map (λ cs. c ∷ cs) (code_points ps)) (code_point p)
 
 -- ---- field 5: "empty, or 1 to 32 code points with single spaces between, after an optional tag .. and one space"
 
@@ -86,11 +86,11 @@ untagged (p ∷ ps) = cond (tag p) ps (p ∷ ps)
 
 -- 1 to 32 code points
 abbrev pub some_parts : List (List ℕ) → Option (List ℕ)
-some_parts ps = cond (leb 1 (length ps) && leb (length ps) parts_most) (code_points ps) none
+some_parts ps = cond (leb 1 (length ps) && leb (length ps) parts_most) (code_points ps) None
 
 -- the decomposition that field 5 says, if it is well formed
 unfoldable pub decomposition : List ℕ → Option (List ℕ)
-decomposition os = cond (empty os) (some []) (some_parts (untagged (cut 0x20 os)))
+decomposition os = cond (empty os) (Some []) (some_parts (untagged (cut 0x20 os)))
 
 -- ---- fields 12 and 14: "an empty titlecase means the simple uppercase, field 12"
 
@@ -100,8 +100,8 @@ optional os = empty os || there (code_point os)
 
 -- the code point that such a field says: another one, c, if it is empty
 unfoldable pub code_point_or : ℕ → List ℕ → Option ℕ
-code_point_or c os = cond (empty os) (some c) (code_point os)
+code_point_or c os = cond (empty os) (Some c) (code_point os)
 
 -- the titlecase that fields 12 and 14 give a code point: field 14's, the uppercase if that is empty, itself if both are
 unfoldable pub titlecase : ℕ → List ℕ → List ℕ → Option ℕ
-titlecase c upper title = bind (code_point_or c upper) (λ u. code_point_or u title)
+titlecase c upper title = option_and_then (λ u. code_point_or u title) (code_point_or c upper)

@@ -1,11 +1,13 @@
 -- A line of UnicodeData.txt: the properties that it gives its code point, and the checks of its reading (20 to 24, 29).
 -- Assumes nothing.
 use Rattle.std.specs.Prelude.{◌≡◌, ℕ, Bool, ◌&&◌, not, List, [], ◌∷◌, ltb, eqb, length}
-use Rattle.std.proofs.Math.Option.{Option, some, map, bind}
+use Rattle.std.specs.Prelude.{Option, Some, option_map, option_and_then}
 use Rattle.terms.specs.Lists.{there}
 use Rattle.terms.specs.Refusals.{line_most, check, first}
 use Rattle.terms.specs.declared.Refusal.{Refusal}
 use Rattle.ucd.specs.declared.SimpleProperties.{SimpleProperties}
+use Rattle.ucd.specs.declared.LineFault.{LineFault}
+use Rattle.ucd.specs.declared.LineFault.TheVariants.{Length, FieldCount, Field0, Field5, Field12, Field14}
 use Rattle.ucd.specs.Fields.{fields, field, code_point, decomposition, optional, titlecase}
 
 -- ---- what a line gives
@@ -24,15 +26,17 @@ with_parts s parts = record { code = s.code.0; title = s.title.0; parts = parts 
 -- is malformed
 unfoldable pub line_properties : List ℕ → Option Properties
 line_properties line =
-    bind (code_point (field 0 line))
-    (λ c. bind (decomposition (field 5 line))
-    (λ ps. map (λ t. record { code = c; title = t; parts = ps }) (titlecase c (field 12 line) (field 14 line))))
+    option_and_then
+    (λ c. option_and_then
+    (λ ps. option_map (λ t. record { code = c; title = t; parts = ps }) (titlecase c (field 12 line) (field 14 line)))
+    (decomposition (field 5 line)))
+    (code_point (field 0 line))
 
 -- the same by each field: what a line says
 pub record LineSays (line : List ℕ) (p : Properties) : Type 0 where
-  pub code : code_point (field 0 line) ≡ some p.code
-  pub parts : decomposition (field 5 line) ≡ some p.parts
-  pub title : titlecase p.code (field 12 line) (field 14 line) ≡ some p.title
+  pub code : code_point (field 0 line) ≡ Some p.code
+  pub parts : decomposition (field 5 line) ≡ Some p.parts
+  pub title : titlecase p.code (field 12 line) (field 14 line) ≡ Some p.title
 
 -- "Lines that say nothing (no parts, titlecase none or itself ..)"
 abbrev pub says_nothing : Properties → Bool
@@ -43,6 +47,15 @@ says_nothing p = eqb p.title p.code && eqb (length p.parts) 0
 -- a check of a line: "place and detail are 0"
 abbrev pub line_check : Bool → ℕ → Option Refusal
 line_check applies n = check applies n 0 0
+
+-- the numbers of the faults of a line
+abbrev pub fault_number : LineFault → ℕ
+fault_number Length = 20
+fault_number FieldCount = 21
+fault_number Field0 = 22
+fault_number Field5 = 23
+fault_number Field12 = 29
+fault_number Field14 = 24
 
 -- "20 line over 512 octets; 21 not exactly 14 semicolons; 22, 23, 24 field 0, 5, 14 malformed", and "29, field 12 malformed,
 -- checked even when 14 is filled, between 23 and 24"

@@ -1,37 +1,28 @@
 // Cutting octets into pieces between separators: the fields of a line, and the parts of field 5.
-ghost use Rattle.std.specs.Prelude.{◌≡◌, ◌+◌, ◌≤◌, ◌<◌, length, drop};
+ghost use Rattle.std.specs.Prelude.{◌≡◌, ◌<◌, length, drop};
 ghost use Rattle.ucd.specs.Fields.{fields, field};
 ghost use Rattle.ucd.specs.Promises.{piece_end};
 
 // Between the fields of a line.
-pub const SEMICOLON: u8 = 0x3B;
+pub const SEMICOLON: u8 = b';';
 
-// Where the piece that starts at a place ends: at the next separator, or at the end.
-pub fn piece_end(t: &[u8], start: usize, separator: u8) -> usize
-    requires { start ≤ length t.now }
-    ensures { result ≡ start + piece_end separator (drop start t.now) }
+// Where the first piece ends: at the first separator, or at the end.
+pub fn piece_end(t: &[u8], separator: u8) -> usize
+    ensures { result ≡ piece_end separator t.now }
 {
-    let mut i = start;
-    while i < t.len() {
-        if t[i] == separator {
-            return i;
-        }
-        i += 1;
-    }
-    i
+    t.iter().position(|&o| o == separator).unwrap_or(t.len())
 }
 
 // How many fields a line has.
 pub fn count_fields(line: &[u8]) -> usize
     ensures { result ≡ length (fields line.now) }
 {
+    // Not by `filter` and `count`, whose jump at each octet takes as long as all else that is read of a line.
     let mut n = 1;
-    let mut i = 0;
-    while i < line.len() {
-        if line[i] == SEMICOLON {
+    for &o in line {
+        if o == SEMICOLON {
             n += 1;
         }
-        i += 1;
     }
     n
 }
@@ -42,7 +33,7 @@ pub fn find_field(line: &[u8], k: usize) -> &[u8]
     ensures { result.now ≡ field k line.now }
 {
     let rest = from_field(line, k);
-    &rest[..piece_end(rest, 0, SEMICOLON)]
+    &rest[..piece_end(rest, SEMICOLON)]
 }
 
 // A line from a field on that it has: a line of the fields that are left.
@@ -50,11 +41,9 @@ pub fn from_field(line: &[u8], k: usize) -> &[u8]
     requires { k < length (fields line.now) }
     ensures { fields result.now ≡ drop k (fields line.now) }
 {
-    let mut start = 0;
-    let mut i = 0;
-    while i < k {
-        start = piece_end(line, start, SEMICOLON) + 1;
-        i += 1;
+    let mut rest = line;
+    for _ in 0..k {
+        rest = &rest[piece_end(rest, SEMICOLON) + 1..];
     }
-    &line[start..]
+    rest
 }

@@ -10,14 +10,13 @@ mod fields;
 mod numbers;
 mod parts;
 
-ghost use Rattle.std.specs.Prelude.{◌≤◌, length};
+ghost use Rattle.std.specs.Prelude.{◌≡◌, ◌≤◌, length};
 ghost use Rattle.terms.specs.Refusals.{parts_most};
+ghost use Rattle.ucd.specs.Lines.{fault_number};
 ghost use Rattle.ucd.specs.Promises.{Reads};
+ghost use Rattle.terms.specs.Reasons.{reason_number};
 
-use crate::cases::Titlecase;
-use crate::numbers::Number;
-use crate::parts::Parts;
-use terms::CodePoint;
+use terms::{CodePoint, Reason};
 
 // The properties that are single code points: the code point itself and its titlecase.
 #[derive(Clone, Copy)]
@@ -26,37 +25,45 @@ pub struct SimpleProperties {
     pub title: CodePoint,
 }
 
-// What a line gives, or the number of its refusal.
-#[derive(Clone, Copy)]
-pub enum Reading {
-    // The simple properties, and how many parts there are, which stand at the front of a slice.
-    Read(SimpleProperties, usize),
-    Refused(u32),
+// Why a line is not read.
+#[derive(Clone, Copy, PartialEq, Eq, Debug)]
+pub enum LineFault {
+    Length,
+    FieldCount,
+    Field0,
+    Field5,
+    Field12,
+    Field14,
 }
 
-// Reads a line; the parts are written to a slice.
-pub fn read_line(line: &[u8], parts: &mut [u32]) -> Reading
+impl From<LineFault> for Reason {
+    ghost from_gives = { λ fault reason. reason_number reason ≡ fault_number fault };
+
+    fn from(fault: LineFault) -> Reason {
+        match fault {
+            LineFault::Length => Reason::LineLength,
+            LineFault::FieldCount => Reason::FieldCount,
+            LineFault::Field0 => Reason::Field0,
+            LineFault::Field5 => Reason::Field5,
+            LineFault::Field12 => Reason::Field12,
+            LineFault::Field14 => Reason::Field14,
+        }
+    }
+}
+
+// Reads a line: the simple properties, and how many parts there are, which are written to the front of a slice.
+pub fn read_line(line: &[u8], parts: &mut [u32]) -> Result<(SimpleProperties, usize), LineFault>
     requires { parts_most ≤ length parts.old }
     ensures { Reads line.now parts.new result }
 {
     if terms::LINE_MOST < line.len() {
-        return Reading::Refused(terms::REFUSED_LINE_LENGTH);
+        return Err(LineFault::Length);
     }
     if fields::count_fields(line) != 15 {
-        return Reading::Refused(terms::REFUSED_FIELD_COUNT);
+        return Err(LineFault::FieldCount);
     }
-    let read = numbers::read_code_point(fields::find_field(line, 0));
-    let Number::Value(code) = read else {
-        return Reading::Refused(terms::REFUSED_FIELD_0);
-    };
-    let listed = parts::read_parts(fields::find_field(line, 5), parts);
-    let Parts::Count(count) = listed else {
-        return Reading::Refused(terms::REFUSED_FIELD_5);
-    };
-    let cased = cases::read_titlecase(code, line);
-    match cased {
-        Titlecase::Value(title) => Reading::Read(SimpleProperties { code, title }, count),
-        Titlecase::MalformedUppercase => Reading::Refused(terms::REFUSED_FIELD_12),
-        Titlecase::MalformedTitlecase => Reading::Refused(terms::REFUSED_FIELD_14),
-    }
+    let code = numbers::read_code_point(fields::find_field(line, 0)).ok_or(LineFault::Field0)?;
+    let count = parts::read_parts(fields::find_field(line, 5), parts).ok_or(LineFault::Field5)?;
+    let title = cases::read_titlecase(code, line)?;
+    Ok((SimpleProperties { code, title }, count))
 }

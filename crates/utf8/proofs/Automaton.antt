@@ -3,7 +3,7 @@
 -- Assumes nothing.
 use mathlib.Core.Path.{◌≡◌, refl, ◌∙◌, ap}
 use mathlib.Core.Bool.{Bool, true, false, cond, ◌&&◌}
-use mathlib.Core.Option.{none}
+use Rattle.std.specs.Prelude.{None}
 use mathlib.Core.List.{List, [], ◌∷◌}
 use Prim.Native.Nat.{ℕ, suc, ◌-◌, ◌≤◌, ◌<◌}
 use native.Mathlib.Decide.{dec_lt}
@@ -48,9 +48,9 @@ module _ (o : ℕ) (t : List ℕ) where
   leads-whole h = record { same = there-drop utf8-decodes (o ∷ t) 0 (character o 1) (decode-one o t h) }
 
   -- it announces no length
-  leads-none : announced o ≡ none → Leads Fault
+  leads-none : announced o ≡ None → Leads Fault
   leads-none e =
-      record { same = ap there (characters-none utf8-decodes (o ∷ t) (decode-first o t none e) (omega arith)) }
+      record { same = ap there (characters-none utf8-decodes (o ∷ t) (decode-first o t None e) (omega arith)) }
 
   -- 80 to BF, and F8 to FF
   leads-80 : 0x80 ≤ o → o < 0xC0 → Leads Fault

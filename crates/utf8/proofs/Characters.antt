@@ -3,7 +3,7 @@
 -- Assumes nothing.
 use mathlib.Core.Path.{◌≡◌, refl, sym, ◌∙◌, ap, ap₂}
 use mathlib.Core.Bool.{true}
-use mathlib.Core.Option.{some}
+use Rattle.std.specs.Prelude.{Some}
 use mathlib.Core.Logic.{◌↔◌}
 use mathlib.Core.List.{List, [], ◌∷◌, ◌++◌}
 use Prim.Native.Nat.{ℕ, ◌≤◌}
@@ -22,14 +22,14 @@ use Rattle.utf8.proofs.Decoders.{characters-cons, characters-empty, characters-s
 pub utf8-decodes : Decodes decode
 utf8-decodes = record { fits = fits; scalars = λ t ch e. (decode-sound t ch e).is_scalar }
   where
-    fits : (t : List ℕ) (ch : Character) → decode t ≡ some ch → (1 ≤ ch.width) × (ch.width ≤ length t)
+    fits : (t : List ℕ) (ch : Character) → decode t ≡ Some ch → (1 ≤ ch.width) × (ch.width ≤ length t)
     fits t ch e =
         let s = decode-sound t ch e in
         let most = length-append (encode ch.code) (drop ch.width t) in
         omega (arith, s.wide, (encode-width ch.code).0, ap length s.octets, most)
 
 -- the encoding of scalar code points has just these for its characters
-pub characters-encodes : (cs : List ℕ) → all scalar cs ≡ true → characters (encodes cs) ≡ some (as_characters cs)
+pub characters-encodes : (cs : List ℕ) → all scalar cs ≡ true → characters (encodes cs) ≡ Some (as_characters cs)
 unfolding each
 characters-encodes [] e = characters-nil utf8-decodes
 characters-encodes (c ∷ cs) e =
@@ -37,7 +37,7 @@ characters-encodes (c ∷ cs) e =
     characters-more utf8-decodes (encode c ++ encodes cs) (character c (length (encode c))) first
     ∙ rw (drop-append_seam (encode c) (encodes cs), characters-encodes cs (all_rest scalar c cs e))
 
-sound : (t : List ℕ) (chs : List Character) → characters t ≡ some chs → Encodes t chs
+sound : (t : List ℕ) (chs : List Character) → characters t ≡ Some chs → Encodes t chs
 unfolding each
 sound t [] e = record { scalars = refl; octets = characters-empty utf8-decodes t e; widths = refl }
 sound t (ch ∷ chs) e =
@@ -51,12 +51,12 @@ sound t (ch ∷ chs) e =
     }
 
 -- a text has these characters exactly when it is the encoding of their scalar code points
-pub characters-exactly : (t : List ℕ) (chs : List Character) → (characters t ≡ some chs) ↔ Encodes t chs
+pub characters-exactly : (t : List ℕ) (chs : List Character) → (characters t ≡ Some chs) ↔ Encodes t chs
 characters-exactly t chs = (sound t chs, is-there)
   where
-    is-there : Encodes t chs → characters t ≡ some chs
+    is-there : Encodes t chs → characters t ≡ Some chs
     is-there s =
-        ap (λ (l : List ℕ). characters l) s.octets ∙ characters-encodes (codes_of chs) s.scalars ∙ ap some (sym s.widths)
+        ap (λ (l : List ℕ). characters l) s.octets ∙ characters-encodes (codes_of chs) s.scalars ∙ ap Some (sym s.widths)
 
 codes : (cs : List ℕ) → codes_of (as_characters cs) ≡ cs
 codes [] = refl

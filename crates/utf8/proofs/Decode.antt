@@ -3,7 +3,7 @@
 -- Assumes nothing.
 use mathlib.Core.Path.{◌≡◌, refl, sym, ◌∙◌, ap, subst}
 use mathlib.Core.Bool.{true, true≢false, ◌&&◌, not}
-use mathlib.Core.Option.{Option, none, some}
+use Rattle.std.specs.Prelude.{Option, None, Some}
 use mathlib.Core.List.{List, [], ◌∷◌, ◌++◌}
 use Prim.Native.Nat.{ℕ, suc, ◌+◌, ◌-◌, ◌<◌}
 use native.Mathlib.Decide.{dec_lt}
@@ -16,7 +16,6 @@ use Rattle.terms.specs.Lists.{there}
 use Rattle.terms.proofs.Parts.{drop-part}
 use Rattle.terms.proofs.Tests.{join, none-some}
 use Rattle.utf8.specs.Utf8.{scalar, encode, Character, character, trailed, taken, announced, sequence, decode}
-use Rattle.utf8.specs.Promises.{length_said}
 use Rattle.terms.proofs.Scalars.{scalar-most}
 use Rattle.utf8.proofs.Encode.{encode_one, high_bits, trailing, length-trailing, Lead, leads_two}
 use Rattle.utf8.proofs.Encode.{leads_three, leads_four, encode-longer, longer}
@@ -26,7 +25,7 @@ use Rattle.utf8.proofs.Trailed.{trailed-trailing, trailed-some, taken_yes, taken
 -- ---- decode by the first octet
 
 -- no octets
-pub decode-nil : decode [] ≡ none
+pub decode-nil : decode [] ≡ None
 unfolding decode
 decode-nil = refl
 
@@ -45,36 +44,34 @@ pub decode-first : (a : ℕ) (t : List ℕ) (o : Option ℕ) → announced a ≡
 unfolding decode
 decode-first a t o e = rw e
 
--- the same at a place of a text, before the part that follows the octet there; 0 says that it announces none
-abbrev pub RowAt : List ℕ → ℕ → ℕ → Type 0
-RowAt t i n = decode (drop i t) ≡ sequence (length_said n) (get_or t i 0) (take (length t - (i + 1)) (drop (i + 1) t))
-
-pub decode-at : (t : List ℕ) (i n : ℕ) → i < length t → length_said n ≡ announced (get_or t i 0) → RowAt t i n
-decode-at t i n h e =
-    ap decode (drop-part i t h) ∙ decode-first (get_or t i 0) (take (length t - (i + 1)) (drop (i + 1) t)) (length_said n) (sym e)
+-- the same at a place of a text, before the part that follows the octet there
+pub decode-at : (t : List ℕ) (i : ℕ) (o : Option ℕ) → i < length t → o ≡ announced (get_or t i 0)
+    → decode (drop i t) ≡ sequence o (get_or t i 0) (take (length t - (i + 1)) (drop (i + 1) t))
+decode-at t i o h e =
+    ap decode (drop-part i t h) ∙ decode-first (get_or t i 0) (take (length t - (i + 1)) (drop (i + 1) t)) o (sym e)
 
 -- one octet
-pub decode-one : (a : ℕ) (t : List ℕ) → a < 0x80 → decode (a ∷ t) ≡ some (character a 1)
-decode-one a t h = decode-first a t (some 1) (announced-one a h)
+pub decode-one : (a : ℕ) (t : List ℕ) → a < 0x80 → decode (a ∷ t) ≡ Some (character a 1)
+decode-one a t h = decode-first a t (Some 1) (announced-one a h)
 
 -- more: the row of the table, by the bits that the octet carries
 sequence-lead : (a x n least : ℕ) (t : List ℕ) → Lead a x n least
-    → sequence (some (suc n)) a t ≡ taken (suc n) least (trailed n x t)
+    → sequence (Some (suc n)) a t ≡ taken (suc n) least (trailed n x t)
 sequence-lead a x n least t (leads_two e h) = let bits : a - 0xC0 ≡ x = omega arith in rw bits
 sequence-lead a x n least t (leads_three e h) = let bits : a - 0xE0 ≡ x = omega arith in rw bits
 sequence-lead a x n least t (leads_four e h) = let bits : a - 0xF0 ≡ x = omega arith in rw bits
 
 pub decode-longer : (a x n least : ℕ) (t : List ℕ) → Lead a x n least → decode (a ∷ t) ≡ taken (suc n) least (trailed n x t)
 decode-longer a x n least t lead =
-    decode-first a t (some (suc n)) (announced-lead a x n least lead) ∙ sequence-lead a x n least t lead
+    decode-first a t (Some (suc n)) (announced-lead a x n least lead) ∙ sequence-lead a x n least t lead
 
 -- ---- what is encoded decodes
 
 -- the octets of a scalar code point decode to it, whatever follows them
-pub decode-encode : (c : ℕ) (t : List ℕ) → scalar c ≡ true → decode (encode c ++ t) ≡ some (character c (length (encode c)))
+pub decode-encode : (c : ℕ) (t : List ℕ) → scalar c ≡ true → decode (encode c ++ t) ≡ Some (character c (length (encode c)))
 decode-encode c t s = by (dec_lt c 0x80)
   where
-    by : Dec (c < 0x80) → decode (encode c ++ t) ≡ some (character c (length (encode c)))
+    by : Dec (c < 0x80) → decode (encode c ++ t) ≡ Some (character c (length (encode c)))
     by (yes h) = rw (encode_one c h) (decode-one c t h)
     by (no h) =
         let r = longer c (omega arith) (scalar-most c s) in
@@ -83,7 +80,7 @@ decode-encode c t s = by (dec_lt c 0x80)
         (decode-longer r.first (high_bits n c) n r.least (trailing n c ++ t) r.lead
         ∙ ap (taken (suc n) r.least) (trailed-trailing n c t)
         ∙ taken_yes (suc n) r.least c r.enough s
-        ∙ ap (λ (w : ℕ). some (character c (suc w))) (sym (length-trailing n c)))
+        ∙ ap (λ (w : ℕ). Some (character c (suc w))) (sym (length-trailing n c)))
 
 -- ---- what decodes is encoded
 
@@ -111,13 +108,13 @@ scalar-low c h =
     join (leb c 0x10FFFF) (not (leb 0xD800 c && leb c 0xDFFF)) (le-leb c 0x10FFFF (omega arith))
     (rw (lt-leb 0xD800 c (omega arith)))
 
-sound-one : (a : ℕ) (t : List ℕ) (ch : Character) → a < 0x80 → decode (a ∷ t) ≡ some ch → Decoded (a ∷ t) ch
+sound-one : (a : ℕ) (t : List ℕ) (ch : Character) → a < 0x80 → decode (a ∷ t) ≡ Some ch → Decoded (a ∷ t) ch
 sound-one a t ch h e =
     let f = decode-one a t h in
     let is : character a 1 ≡ ch = cc in
     decoded (a ∷ t) t a 1 ch (scalar-low a h) (rw (encode_one a h)) (rw (encode_one a h)) is
 
-sound-longer : (a x n least : ℕ) (t : List ℕ) (ch : Character) → Lead a x n least → decode (a ∷ t) ≡ some ch → Decoded (a ∷ t) ch
+sound-longer : (a x n least : ℕ) (t : List ℕ) (ch : Character) → Lead a x n least → decode (a ∷ t) ≡ Some ch → Decoded (a ∷ t) ch
 sound-longer a x n least t ch lead e =
     let q = taken-some (suc n) least (trailed n x t) ch (sym (decode-longer a x n least t lead) ∙ e) in
     let r = trailed-some n x q.0 t q.1 in
@@ -127,32 +124,32 @@ sound-longer a x n least t ch lead e =
     q.4
 
 -- what decodes is a scalar code point, and the text begins with its octets
-pub decode-sound : (t : List ℕ) (ch : Character) → decode t ≡ some ch → Decoded t ch
+pub decode-sound : (t : List ℕ) (ch : Character) → decode t ≡ Some ch → Decoded t ch
 decode-sound [] ch e = absurd (none-some ch (sym decode-nil ∙ e))
 decode-sound (a ∷ t) ch e = by (announced a) refl (says a)
   where
     by : (o : Option ℕ) → announced a ≡ o → Says a o → Decoded (a ∷ t) ch
     by o is (alone h) = sound-one a t ch h e
     by o is (leads x n least lead) = sound-longer a x n least t ch lead e
-    by o is begins_none = absurd (none-some ch (sym (decode-first a t none is) ∙ e))
+    by o is begins_none = absurd (none-some ch (sym (decode-first a t None is) ∙ e))
 
 -- a character is as long as its first octet announces
-pub decode-announced : (a : ℕ) (t : List ℕ) (ch : Character) → decode (a ∷ t) ≡ some ch → announced a ≡ some ch.width
+pub decode-announced : (a : ℕ) (t : List ℕ) (ch : Character) → decode (a ∷ t) ≡ Some ch → announced a ≡ Some ch.width
 decode-announced a t ch e = by (announced a) refl (says a)
   where
-    by : (o : Option ℕ) → announced a ≡ o → Says a o → announced a ≡ some ch.width
+    by : (o : Option ℕ) → announced a ≡ o → Says a o → announced a ≡ Some ch.width
     by o is (alone h) =
         let one = decode-one a t h in
         let ch-is : character a 1 ≡ ch = cc in
-        is ∙ ap (λ (x : Character). some x.width) ch-is
+        is ∙ ap (λ (x : Character). Some x.width) ch-is
     by o is (leads x n least lead) =
         let q = taken-some (suc n) least (trailed n x t) ch (sym (decode-longer a x n least t lead) ∙ e) in
-        is ∙ ap (λ (x : Character). some x.width) q.4
-    by o is begins_none = absurd (none-some ch (sym (decode-first a t none is) ∙ e))
+        is ∙ ap (λ (x : Character). Some x.width) q.4
+    by o is begins_none = absurd (none-some ch (sym (decode-first a t None is) ∙ e))
 
 -- wherever it stands
-pub decode-announced-at : (t : List ℕ) (i : ℕ) (ch : Character) → decode (drop i t) ≡ some ch
-    → announced (get_or t i 0) ≡ some ch.width
+pub decode-announced-at : (t : List ℕ) (i : ℕ) (ch : Character) → decode (drop i t) ≡ Some ch
+    → announced (get_or t i 0) ≡ Some ch.width
 decode-announced-at t i ch e =
     let starts = drop-cons t i 0 (decode-stands t i (ap there e)) in
     decode-announced (get_or t i 0) (drop (suc i) t) ch (sym (ap decode starts) ∙ e)

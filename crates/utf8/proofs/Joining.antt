@@ -4,7 +4,7 @@
 -- Assumes nothing.
 use mathlib.Core.Path.{◌≡◌, refl, sym, ◌∙◌, ap}
 use mathlib.Core.Bool.{Bool, true, false, true≢false}
-use mathlib.Core.Option.{none, some}
+use Rattle.std.specs.Prelude.{None, Some}
 use mathlib.Core.List.{List}
 use Prim.Native.Nat.{ℕ, suc, ◌+◌, ◌-◌, ◌*◌, ◌^◌, ◌≤◌, ◌<◌}
 use native.Mathlib.Decide.{dec_lt}
@@ -51,12 +51,12 @@ module _ {n x : ℕ} {t : List ℕ} {i code : ℕ} (j : Joining n x t i code) wh
       })
 
   -- it doesn't
-  joining-stops : i < n → i < length t → trails (get_or t i 0) ≡ false → trailed n x t ≡ none
+  joining-stops : i < n → i < length t → trails (get_or t i 0) ≡ false → trailed n x t ≡ None
   unfolding trailed
   joining-stops h l p = j.left ∙ rw (one_left h, drop-cons t i 0 l, p)
 
   -- none is left
-  pub joining-done : n ≤ i → trailed n x t ≡ some code
+  pub joining-done : n ≤ i → trailed n x t ≡ Some code
   joining-done h =
       let none_left : n - i ≡ 0 = omega arith in
       j.left ∙ rw none_left (trailed-zero code (drop i t))
@@ -66,7 +66,7 @@ module _ {n x : ℕ} {t : List ℕ} {i code : ℕ} (j : Joining n x t i code) wh
   joining-next h is = (long, trails-bounds (get_or t i 0) (by (trails (get_or t i 0)) refl))
     where
       -- they come to a number
-      not_none : trailed n x t ≡ none → ⊥
+      not_none : trailed n x t ≡ None → ⊥
       not_none e = true≢false (sym is ∙ ap there e)
 
       long : i < length t

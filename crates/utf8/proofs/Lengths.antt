@@ -5,7 +5,7 @@
 use mathlib.Core.Path.{◌≡◌, refl, sym, ◌∙◌, ap, subst}
 use mathlib.Core.Bool.{Bool, true, false, true≢false, cond, not, ◌&&◌}
 use mathlib.Core.Logic.{◌⊎◌, inl, inr}
-use mathlib.Core.Option.{Option, none, some}
+use Rattle.std.specs.Prelude.{Option, None, Some}
 use Prim.Native.Nat.{ℕ, zero, suc, ◌-◌, ◌^◌, ◌≤◌, ◌<◌}
 use native.Mathlib.Decide.{dec_lt}
 use native.Mathlib.Nat.{pow-suc}
@@ -24,23 +24,23 @@ use Rattle.utf8.proofs.Encode.{Lead, leads_two, leads_three, leads_four}
 
 -- whether two lengths are the same
 abbrev same_length : Option ℕ → Option ℕ → Bool
-same_length none none = true
-same_length none (some n) = false
-same_length (some m) none = false
-same_length (some m) (some n) = eqb m n
+same_length None None = true
+same_length None (Some n) = false
+same_length (Some m) None = false
+same_length (Some m) (Some n) = eqb m n
 
 same_length-true : (a b : Option ℕ) → same_length a b ≡ true → a ≡ b
-same_length-true none none e = refl
-same_length-true none (some n) e = absurd (true≢false (sym e))
-same_length-true (some m) none e = absurd (true≢false (sym e))
-same_length-true (some m) (some n) e = ap some (eqb-true m n e)
+same_length-true None None e = refl
+same_length-true None (Some n) e = absurd (true≢false (sym e))
+same_length-true (Some m) None e = absurd (true≢false (sym e))
+same_length-true (Some m) (Some n) e = ap Some (eqb-true m n e)
 
 -- the test of an octet
 abbrev agrees : ℕ → Bool
 agrees o = eqb (count_leading_zeros 8 (255 - o)) (leading_ones 8 o) && same_length (announced o) (by_range o)
 
 -- computed for all of them
-no-octet-differs : lowest (λ o. not (agrees o)) 256 ≡ none
+no-octet-differs : lowest (λ o. not (agrees o)) 256 ≡ None
 unfolding lowest count_leading_zeros leading_ones announced
 no-octet-differs = refl
 
@@ -58,25 +58,35 @@ leading_zeros-inverted o h = (octet-agrees o h).0
 
 -- ---- announced, by the count of leading ones
 
+-- an octet from 80 on has such a bit
+pub leading_ones-some : (o : ℕ) → 0x80 ≤ o → 1 ≤ leading_ones 8 o
+unfolding leading_ones
+leading_ones-some o h = rw (le-leb 0x80 o h) (omega arith)
+
 -- no such bit gives 1
-pub announced-no-ones : (o : ℕ) → leading_ones 8 o ≡ 0 → announced o ≡ some 1
+pub announced-no-ones : (o : ℕ) → leading_ones 8 o ≡ 0 → announced o ≡ Some 1
 unfolding announced
 announced-no-ones o e = rw e
 
 -- two to four give that many
-pub announced-ones : (o : ℕ) → 2 ≤ leading_ones 8 o → leading_ones 8 o ≤ 4 → announced o ≡ some (leading_ones 8 o)
+pub announced-ones : (o : ℕ) → 2 ≤ leading_ones 8 o → leading_ones 8 o ≤ 4 → announced o ≡ Some (leading_ones 8 o)
 unfolding announced
 announced-ones o l m =
     let n = leading_ones 8 o in
     simp (ne_eqb n 0 (λ e. omega arith), le-leb 2 n l, le-leb n 4 m)
 
 -- any other count begins no sequence
-pub announced-one-or-many : (o : ℕ) → (leading_ones 8 o ≡ 1) ⊎ (5 ≤ leading_ones 8 o) → announced o ≡ none
+pub announced-one-or-many : (o : ℕ) → (leading_ones 8 o ≡ 1) ⊎ (5 ≤ leading_ones 8 o) → announced o ≡ None
 unfolding announced
 announced-one-or-many o (inl e) = rw e
 announced-one-or-many o (inr l) =
     let n = leading_ones 8 o in
     simp (ne_eqb n 0 (λ e. omega arith), le-leb 2 n (omega arith), lt-leb n 4 l)
+
+-- as the count of the leading ones of an octet says it
+pub announced_counted : {n : ℕ} (o : ℕ) → o < 256 → n ≡ count_leading_zeros 8 (255 - o) → announced o ≡ length_by n
+unfolding announced
+announced_counted o h e = ap length_by (sym (e ∙ leading_zeros-inverted o h))
 
 -- ---- announced, by ranges
 
@@ -106,11 +116,11 @@ announced-range o = by (dec_lt o 256)
         ))
 
 -- a character by itself
-pub announced-one : (a : ℕ) → a < 0x80 → announced a ≡ some 1
+pub announced-one : (a : ℕ) → a < 0x80 → announced a ≡ Some 1
 announced-one a h = announced-range a ∙ simp (lt-ltb a 0x80 h)
 
 -- the first of several octets
-pub announced-lead : (a x n least : ℕ) → Lead a x n least → announced a ≡ some (suc n)
+pub announced-lead : (a x n least : ℕ) → Lead a x n least → announced a ≡ Some (suc n)
 announced-lead a x n least (leads_two e h) =
     announced-range a ∙ simp (le-ltb a 0x80 (omega arith), le-ltb a 0xC0 (omega arith), lt-ltb a 0xE0 (omega arith))
 announced-lead a x n least (leads_three e h) =
@@ -128,15 +138,15 @@ announced-lead a x n least (leads_four e h) =
 
 -- what an octet is by the length that it announces: a character by itself, the first of several octets, or neither
 pub data Says (a : ℕ) : Option ℕ → Type 0 where
-  alone : a < 0x80 → Says a (some 1)
-  leads : (x n least : ℕ) → Lead a x n least → Says a (some (suc n))
-  begins_none : Says a none
+  alone : a < 0x80 → Says a (Some 1)
+  leads : (x n least : ℕ) → Lead a x n least → Says a (Some (suc n))
+  begins_none : Says a None
 
 pub says : (a : ℕ) → Says a (announced a)
 says a = rw (announced-range a) (by (ltb a 0x80) (ltb a 0xC0) (ltb a 0xE0) (ltb a 0xF0) (ltb a 0xF8) refl refl refl refl refl)
   where
     by : (p q r s u : Bool) → ltb a 0x80 ≡ p → ltb a 0xC0 ≡ q → ltb a 0xE0 ≡ r → ltb a 0xF0 ≡ s → ltb a 0xF8 ≡ u
-        → Says a (cond p (some 1) (cond q none (cond r (some 2) (cond s (some 3) (cond u (some 4) none)))))
+        → Says a (cond p (Some 1) (cond q None (cond r (Some 2) (cond s (Some 3) (cond u (Some 4) None)))))
     by true q r s u e f g h k = alone (ltb-true a 0x80 e)
     by false true r s u e f g h k = begins_none
     by false false true s u e f g h k =
@@ -162,10 +172,10 @@ lead-marked a x n least (leads_three e h) = omega arith
 lead-marked a x n least (leads_four e h) = omega arith
 
 -- an octet that announces w, two or more, has w ones, and then none
-pub announced-marked : (a w : ℕ) → announced a ≡ some w → 2 ≤ w → Marked w a
+pub announced-marked : (a w : ℕ) → announced a ≡ Some w → 2 ≤ w → Marked w a
 announced-marked a w e l = by (announced a) (says a) e
   where
-    by : (o : Option ℕ) → Says a o → o ≡ some w → Marked w a
+    by : (o : Option ℕ) → Says a o → o ≡ Some w → Marked w a
     by o (alone h) e = let is : 1 ≡ w = cc in absurd (omega arith)
     by o (leads x n least lead) e = let is : suc n ≡ w = cc in subst (λ (v : ℕ). Marked v a) is (lead-marked a x n least lead)
     by o begins_none e = absurd (none-some w e)

@@ -6,6 +6,7 @@ pub mod Encode
 pub mod Fitting
 pub mod Joining
 pub mod Lengths
+pub mod Reading
 pub mod Rows
 pub mod Tails
 pub mod Trailed

@@ -4,7 +4,7 @@
 use mathlib.Core.Path.{◌≡◌, refl}
 use mathlib.Core.Bool.{Bool, not}
 use mathlib.Core.List.{List, [], ◌∷◌}
-use mathlib.Core.Option.{none}
+use Rattle.std.specs.Prelude.{None}
 use Prim.Native.Nat.{ℕ, zero, suc, ◌/◌, ◌%◌, ◌^◌, ◌<◌}
 use native.Mathlib.Omega.{arith}
 use lib.Dec.{eqb}
@@ -20,7 +20,7 @@ abbrev agrees : State → ℕ → Bool
 agrees s o = eqb (row_of o / 2 ^ place s % 64) (place (next s o))
 
 -- computed for all of them
-no-row-differs : (s : State) → lowest (λ o. not (agrees s o)) 256 ≡ none
+no-row-differs : (s : State) → lowest (λ o. not (agrees s o)) 256 ≡ None
 unfolding lowest row_of total after_first
 no-row-differs Whole = refl
 no-row-differs One = refl

@@ -5,7 +5,7 @@
 use mathlib.Core.Path.{◌≡◌, refl, sym, ◌∙◌, ap}
 use mathlib.Core.Bool.{Bool, true, false, ◌&&◌}
 use mathlib.Core.Logic.{◌⊎◌, inl, inr}
-use mathlib.Core.Option.{Option, none, some}
+use Rattle.std.specs.Prelude.{Option, None, Some}
 use mathlib.Core.List.{List, [], ◌∷◌}
 use Prim.Native.Nat.{ℕ, zero, suc, ◌+◌, ◌-◌, ◌*◌, ◌≤◌, ◌<◌}
 use native.Mathlib.Decide.{dec_lt, dec_le}
@@ -44,12 +44,12 @@ amid low high n (b ∷ t) = in_range low high b && tailed n t
 
 -- whether a code point that was read is taken
 abbrev fits : ℕ → Option ℕ → Bool
-fits least none = false
-fits least (some c) = leb least c && scalar c
+fits least None = false
+fits least (Some c) = leb least c && scalar c
 
 there-taken : (w least : ℕ) (o : Option ℕ) → there (taken w least o) ≡ fits least o
-there-taken w least none = refl
-there-taken w least (some c) = by (leb least c && scalar c)
+there-taken w least None = refl
+there-taken w least (Some c) = by (leb least c && scalar c)
   where
     by : (p : Bool) → there (when p (character c w)) ≡ p
     by true = refl
@@ -67,11 +67,11 @@ characters-lead a x n least t lead =
   where
     by : (o : Option Character) → taken (suc n) least (trailed n x t) ≡ o
         → there (characters (a ∷ t)) ≡ (there (taken (suc n) least (trailed n x t)) && there (characters (drop n t)))
-    by none e =
+    by None e =
         rw e (ap there (characters-none utf8-decodes (a ∷ t) (decode-longer a x n least t lead ∙ e) (omega arith)))
-    by (some ch) e =
+    by (Some ch) e =
         let q = taken-some (suc n) least (trailed n x t) ch e in
-        let read = decode-longer a x n least t lead ∙ e ∙ ap some (sym q.4) in
+        let read = decode-longer a x n least t lead ∙ e ∙ ap Some (sym q.4) in
         rw e (rw (zero-add (suc n)) at (there-drop utf8-decodes (a ∷ t) 0 (character q.0 (suc n)) read))
 
 -- the bits x, and after them those of an octet that trails

@@ -5,7 +5,7 @@
 use Rattle.std.specs.Prelude.{◌≡◌, true, ℕ, zero, suc, ◌≤◌, ◌<◌, length, drop}
 use Rattle.std.proofs.Math.Path.{refl, ap}
 use Rattle.std.proofs.Common.{◌∙◌, arith}
-use Rattle.std.proofs.Math.Option.{Option, none, some}
+use Rattle.std.specs.Prelude.{Option, None, Some}
 use mathlib.Core.List.{List, [], ◌∷◌, map}
 use Rattle.terms.specs.CodePoints.{scalar}
 
@@ -29,27 +29,27 @@ Decoder = List ℕ → Option Character
 -- what every decoder must have: a character takes an octet or more and no more than there are (so there is none in no
 -- octets), and its code point is scalar
 pub record Decodes (decode : Decoder) : Type 0 where
-  pub fits : (t : List ℕ) (ch : Character) → decode t ≡ some ch → (1 ≤ ch.width) × (ch.width ≤ length t)
-  pub scalars : (t : List ℕ) (ch : Character) → decode t ≡ some ch → scalar ch.code ≡ true
+  pub fits : (t : List ℕ) (ch : Character) → decode t ≡ Some ch → (1 ≤ ch.width) × (ch.width ≤ length t)
+  pub scalars : (t : List ℕ) (ch : Character) → decode t ≡ Some ch → scalar ch.code ≡ true
 
 -- a character before others, where these are there
 abbrev pub prepend : Character → Option (List Character) → Option (List Character)
-prepend ch none = none
-prepend ch (some chs) = some (ch ∷ chs)
+prepend ch None = None
+prepend ch (Some chs) = Some (ch ∷ chs)
 
 -- a character, and those that begin so many octets after its first one; none where it is none, or takes no octet
 abbrev pub before : Option Character → (ℕ → Option (List Character)) → Option (List Character)
-before none rest = none
-before (some ch) rest = prepend ch (after ch.width)
+before None rest = None
+before (Some ch) rest = prepend ch (after ch.width)
   where
     after : ℕ → Option (List Character)
-    after zero = none
+    after zero = None
     after (suc k) = rest k
 
 -- the characters of octets of which the first k still belong to the character before; none where that one is cut off
 unfoldable pub characters_after : Decoder → ℕ → List ℕ → Option (List Character)
-characters_after decode zero [] = some []
-characters_after decode (suc k) [] = none
+characters_after decode zero [] = Some []
+characters_after decode (suc k) [] = None
 characters_after decode zero (a ∷ t) = before (decode (a ∷ t)) (λ k. characters_after decode k t)
 characters_after decode (suc k) (a ∷ t) = characters_after decode k t
 
@@ -68,19 +68,19 @@ characters_after-drop decode (suc k) [] h = absurd (omega arith)
 characters_after-drop decode (suc k) (a ∷ t) h = characters_after-drop decode k t (omega arith)
 
 before-some : (decode : Decoder) (c w a : ℕ) (t : List ℕ) → 1 ≤ w → w ≤ length (a ∷ t)
-    → before (some (character c w)) (λ k. characters_after decode k t) ≡ prepend (character c w)
+    → before (Some (character c w)) (λ k. characters_after decode k t) ≡ prepend (character c w)
     (characters_by decode (drop w (a ∷ t)))
 before-some decode c zero a t l h = absurd (omega arith)
 before-some decode c (suc k) a t l h = ap (prepend (character c (suc k))) (characters_after-drop decode k t (omega arith))
 
 module _ {decode : Decoder} (d : Decodes decode) where
   -- no octets are no characters
-  pub characters-nil : characters_by decode [] ≡ some []
+  pub characters-nil : characters_by decode [] ≡ Some []
   unfolding characters_after characters_by
   characters-nil = refl
 
   -- a text whose first character is there: it, and the characters of what follows it
-  pub characters-more : (t : List ℕ) (ch : Character) → decode t ≡ some ch
+  pub characters-more : (t : List ℕ) (ch : Character) → decode t ≡ Some ch
       → characters_by decode t ≡ prepend ch (characters_by decode (drop ch.width t))
   unfolding characters_after characters_by
   characters-more [] ch e = absurd (omega (arith, d.fits [] ch e))
@@ -90,7 +90,7 @@ module _ {decode : Decoder} (d : Decodes decode) where
       ∙ before-some decode ch.code ch.width a t fits.0 fits.1
 
   -- a text with no first character has none
-  pub characters-none : (t : List ℕ) → decode t ≡ none → 0 < length t → characters_by decode t ≡ none
+  pub characters-none : (t : List ℕ) → decode t ≡ None → 0 < length t → characters_by decode t ≡ None
   unfolding characters_after characters_by
   characters-none [] e h = absurd (omega arith)
   characters-none (a ∷ t) e h = rw e

@@ -1,15 +1,9 @@
 -- What the contracts of the crate say with the definitions of specs/Utf8.antt.
 -- Assumes nothing.
-use Rattle.std.specs.Prelude.{◌≡◌, ℕ, zero, suc, List, length}
-use Rattle.std.proofs.Math.Option.{Option, none, some}
+use Rattle.std.specs.Prelude.{◌≡◌, ℕ, List, length}
 use Rattle.terms.specs.Lists.{over}
 use Rattle.utf8.specs.Utf8.{Character, character, encode}
 use Rattle.utf8.specs.declared.DecodedCharacter.{DecodedCharacter}
-
--- the length that a number says, where 0 says that there is none
-abbrev pub length_said : ℕ → Option ℕ
-length_said zero = none
-length_said (suc n) = some (suc n)
 
 -- the character that was read where one stands
 abbrev pub character_of : DecodedCharacter → Character

@@ -4,7 +4,7 @@
 -- another; so no overlong form, no surrogate, nothing above U+10FFFF and nothing cut off is a character.
 -- Assumes nothing.
 use Rattle.std.specs.Prelude.{◌≡◌, ℕ, zero, suc, ◌+◌, ◌-◌, ◌*◌, ◌/◌, ◌%◌, ◌^◌, Bool, true, cond, ◌&&◌, List, [], ◌∷◌, map, eqb, leb, ltb, length}
-use Rattle.std.proofs.Math.Option.{Option, none, some}
+use Rattle.std.specs.Prelude.{Option, None, Some}
 use Rattle.terms.specs.Lists.{all, each, when}
 use Rattle.utf8.specs.Characters.{codes_of, characters_by}
 pub use Rattle.terms.specs.CodePoints.{scalar}
@@ -17,7 +17,7 @@ leading_ones (suc k) o = cond (leb (2 ^ k) o) (suc (leading_ones k (o - 2 ^ k)))
 
 -- "no such bit gives 1, two to four give that many, any other count begins no sequence"
 abbrev pub length_by : ℕ → Option ℕ
-length_by ones = cond (eqb ones 0) (some 1) (when (leb 2 ones && leb ones 4) ones)
+length_by ones = cond (eqb ones 0) (Some 1) (when (leb 2 ones && leb ones 4) ones)
 
 -- the length that an octet announces, by its leading ones (RFC 3629, section 3, the first octets of the table)
 unfoldable pub announced : ℕ → Option ℕ
@@ -41,27 +41,27 @@ trails b = leb 0x80 b && ltb b 0xC0
 
 -- the number of the bits x and of the low six bits of each of n octets more, which must be there and trail
 unfoldable pub trailed : ℕ → ℕ → List ℕ → Option ℕ
-trailed zero x t = some x
-trailed (suc n) x [] = none
-trailed (suc n) x (b ∷ t) = cond (trails b) (trailed n (x * 64 + (b - 0x80)) t) none
+trailed zero x t = Some x
+trailed (suc n) x [] = None
+trailed (suc n) x (b ∷ t) = cond (trails b) (trailed n (x * 64 + (b - 0x80)) t) None
 
 -- a code point read from w octets is taken if it needs that many (least is the lowest that does) and is scalar
 abbrev pub taken : ℕ → ℕ → Option ℕ → Option Character
-taken w least none = none
-taken w least (some c) = when (leb least c && scalar c) (character c w)
+taken w least None = None
+taken w least (Some c) = when (leb least c && scalar c) (character c w)
 
 -- the character that the octet a begins and t goes on, by the length that a announces (RFC 3629, section 3, the rows of the table)
 abbrev pub sequence : Option ℕ → ℕ → List ℕ → Option Character
-sequence none a t = none
-sequence (some n) a t =
-    cond (eqb n 1) (some (character a 1))
+sequence None a t = None
+sequence (Some n) a t =
+    cond (eqb n 1) (Some (character a 1))
     (cond (eqb n 2) (taken 2 0x80 (trailed 1 (a - 0xC0) t))
     (cond (eqb n 3) (taken 3 0x800 (trailed 2 (a - 0xE0) t))
-    (cond (eqb n 4) (taken 4 0x10000 (trailed 3 (a - 0xF0) t)) none)))
+    (cond (eqb n 4) (taken 4 0x10000 (trailed 3 (a - 0xF0) t)) None)))
 
 -- the character at the front of a text, by its first octet, or none
 unfoldable pub decode : List ℕ → Option Character
-decode [] = none
+decode [] = None
 decode (a ∷ t) = sequence (announced a) a t
 
 -- the characters of a text, or none: "A text is valid if it is UTF-8 by RFC 3629"
@@ -74,11 +74,11 @@ characters t = characters_by decode t
 -- proofs/Lengths.antt)
 abbrev pub by_range : ℕ → Option ℕ
 by_range a =
-    cond (ltb a 0x80) (some 1)
-    (cond (ltb a 0xC0) none
-    (cond (ltb a 0xE0) (some 2)
-    (cond (ltb a 0xF0) (some 3)
-    (cond (ltb a 0xF8) (some 4) none))))
+    cond (ltb a 0x80) (Some 1)
+    (cond (ltb a 0xC0) None
+    (cond (ltb a 0xE0) (Some 2)
+    (cond (ltb a 0xF0) (Some 3)
+    (cond (ltb a 0xF8) (Some 4) None))))
 
 -- ---- the same by encoding
 

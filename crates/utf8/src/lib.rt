@@ -7,8 +7,8 @@ mod judging;
 mod sequences;
 
 ghost use Rattle.std.specs.Prelude.{◌≡◌, true, ◌+◌, ◌%◌, ◌≤◌, length, drop};
-ghost use Rattle.std.proofs.Math.Option.{some};
-ghost use Rattle.terms.specs.Lists.{there};
+ghost use Rattle.std.specs.Prelude.{Some};
+ghost use Rattle.terms.specs.Lists.{over, there};
 ghost use Rattle.utf8.specs.Utf8.{encode, decode, characters};
 ghost use Rattle.utf8.specs.Promises.{character_of, Written};
 
@@ -24,23 +24,22 @@ pub struct DecodedCharacter {
 // The character at a position where one stands, as everywhere in a valid text: read without asking again whether it is one.
 pub fn read_valid(text: &[u8], at: TextPosition) -> DecodedCharacter
     requires { there (decode (drop at.0 text.now)) ≡ true }
-    ensures { some (character_of result) ≡ decode (drop at.0 text.now) }
+    ensures { Some (character_of result) ≡ decode (drop at.0 text.now) }
 {
     let i = at.0;
     let first = text[i];
     let a = first as u32;
     let rest = &text[i + 1..];
-    let width = sequences::sequence_length(first);
-    match width {
-        1 => DecodedCharacter {
+    match sequences::sequence_length(first) {
+        Some(1) => DecodedCharacter {
             code: CodePoint(a),
             width: 1,
         },
-        3 => DecodedCharacter {
+        Some(3) => DecodedCharacter {
             code: CodePoint(sequences::join(2, a - 0xE0, rest)),
             width: 3,
         },
-        4 => DecodedCharacter {
+        Some(4) => DecodedCharacter {
             code: CodePoint(sequences::join(3, a - 0xF0, rest)),
             width: 4,
         },
@@ -62,49 +61,59 @@ pub fn is_valid(text: &[u8]) -> bool
 }
 
 // How many octets a code point takes.
+#[tactic(auto, unfolding(crate::specs::Utf8::encode))]
 pub fn octet_count(c: CodePoint) -> usize
     ensures { result ≡ length (encode c.0) }
 {
-    let n = c.0;
-    if n < 0x80 {
-        return 1;
+    match c.0 {
+        ..=0x7F => 1,
+        ..=0x7FF => 2,
+        ..=0xFFFF => 3,
+        _ => 4,
     }
-    if n < 0x800 {
-        return 2;
-    }
-    if n < 0x10000 {
-        return 3;
-    }
-    4
 }
 
 // Writes a code point at the start of a slice, and answers how many octets it took.
+#[tactic(auto, unfolding(crate::specs::Utf8::encode))]
 pub fn write_character(c: CodePoint, out: &mut [u8]) -> usize
     requires c_bound { c.0 ≤ 0x10FFFF }
     requires c_in_bounds { length (encode c.0) ≤ length out.old }
     ensures { Written c.0 out.old result out.new }
 {
-    let n = c.0;
-    if n < 0x80 {
-        out[0] = n as u8;
-        return 1;
+    match c.0 {
+        n @ ..=0x7F => put(out, &[n as u8]),
+        n @ ..=0x7FF => put(out, &[(0xC0 + n / 64) as u8, trailing_octet(n)]),
+        n @ ..=0xFFFF => put(
+            out,
+            &[
+                (0xE0 + n / 4096) as u8,
+                trailing_octet(n / 64),
+                trailing_octet(n),
+            ],
+        ),
+        n => {
+            let first = (0xF0 + n / 262144) as u8;
+            put(
+                out,
+                &[
+                    first,
+                    trailing_octet(n / 4096),
+                    trailing_octet(n / 64),
+                    trailing_octet(n),
+                ],
+            )
+        }
     }
-    if n < 0x800 {
-        out[0] = (0xC0 + n / 64) as u8;
-        out[1] = trailing_octet(n);
-        return 2;
-    }
-    if n < 0x10000 {
-        out[0] = (0xE0 + n / 4096) as u8;
-        out[1] = trailing_octet(n / 64);
-        out[2] = trailing_octet(n);
-        return 3;
-    }
-    out[0] = (0xF0 + n / 262144) as u8;
-    out[1] = trailing_octet(n / 4096);
-    out[2] = trailing_octet(n / 64);
-    out[3] = trailing_octet(n);
-    4
+}
+
+// Puts octets at the start of a slice, and answers how many they are.
+fn put(out: &mut [u8], octets: &[u8]) -> usize
+    requires { length octets.now ≤ length out.old }
+    ensures count { result ≡ length octets.now }
+    ensures octets { out.new ≡ over octets.now out.old }
+{
+    out[..octets.len()].copy_from_slice(octets);
+    octets.len()
 }
 
 // The octet that continues a character with the low six bits of a number.

@@ -1,39 +1,25 @@
 // The octet sequences of UTF-8 (RFC 3629, section 3): how long one is by its first octet, and what its octets come to.
-ghost use Rattle.std.specs.Prelude.{◌≡◌, true, ◌+◌, ◌-◌, ◌*◌, ◌≤◌, ◌<◌, eqb};
-ghost use Rattle.std.proofs.Math.Option.{some};
+ghost use Rattle.std.specs.Prelude.{◌≡◌, true, ◌+◌, ◌-◌, ◌*◌, ◌≤◌, ◌<◌};
+ghost use Rattle.std.specs.Prelude.{Some};
 ghost use Rattle.terms.specs.Lists.{there};
-ghost use Rattle.utf8.specs.Utf8.{leading_ones, announced, trailed};
-ghost use Rattle.utf8.specs.Promises.{length_said};
+ghost use Rattle.utf8.specs.Utf8.{announced, trailed};
 
-// How many octets the sequence has that an octet begins, by its leading ones (RFC 3629, section 3); 0 where it begins none.
-pub fn sequence_length(first: u8) -> usize
-    ensures { length_said result ≡ announced first }
+// How many octets the sequence has that an octet begins, by its leading ones (RFC 3629, section 3); none where it begins none.
+#[tactic(auto, using(crate::proofs::Lengths::announced_counted), unfolding(crate::specs::Utf8::announced))]
+pub fn sequence_length(first: u8) -> Option<usize>
+    ensures { result ≡ announced first }
 {
-    if is_ascii(first) {
-        return 1;
+    // Asked apart, so that of ASCII nothing is counted.
+    if first.is_ascii() {
+        return Some(1);
     }
-    // The count is compared, each time with <, and goes nowhere else: the compiler then compares the octet and counts nothing.
-    let ones = u8::leading_zeros(!first);
-    if ones < 2 {
-        return 0;
+    match first.leading_ones() {
+        ..=1 => None,
+        ..=2 => Some(2),
+        ..=3 => Some(3),
+        ..=4 => Some(4),
+        _ => None,
     }
-    if ones < 3 {
-        return 2;
-    }
-    if ones < 4 {
-        return 3;
-    }
-    if ones < 5 {
-        return 4;
-    }
-    0
-}
-
-// Whether an octet is a character by itself: it has no leading one.
-fn is_ascii(octet: u8) -> bool
-    ensures { result ≡ eqb (leading_ones 8 octet) 0 }
-{
-    u8::leading_zeros(!octet) == 0
 }
 
 // The number of the bits `bits` and of those of the octets that `rest` begins with, `count` of them, where all trail.
@@ -41,13 +27,11 @@ pub fn join(count: usize, bits: u32, rest: &[u8]) -> u32
     requires count_bound { count ≤ 3 }
     requires bits_bound { bits < 0x20 }
     requires rest_value { there (trailed count bits rest.now) ≡ true }
-    ensures { some result ≡ trailed count bits rest.now }
+    ensures { Some result ≡ trailed count bits rest.now }
 {
     let mut code = bits;
-    let mut i = 0;
-    while i < count {
-        code = append_bits(code, rest[i] as u32);
-        i += 1;
+    for &octet in &rest[..count] {
+        code = append_bits(code, octet as u32);
     }
     code
 }

@@ -5,7 +5,6 @@
 
 #![tactic(auto)]
 
-mod print;
 mod shapes;
 mod shown;
 mod tables;

@@ -3,6 +3,5 @@
 use Rattle.compare.proofs.Calls.{equals-by}
 use Rattle.compare.proofs.equal_accepted.Goals as goal
 
--- equality by the order
 pub returns : goal.returns
-returns c = rw c.equality_of.ensures (equals-by c.order_accepted-ordered.ensures)
+returns c = rw c.equality_of.ensures (equals-by c.order_accepted.ensures)

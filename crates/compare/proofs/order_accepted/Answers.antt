@@ -3,6 +3,7 @@
 -- Assumes nothing.
 use mathlib.Core.Path.{refl}
 use lib.ListN.{length}
+use Rattle.std.proofs.lemmas.Result.{err_from_is_err_and}
 use Rattle.terms.specs.Collations.{collation_of}
 use Rattle.table.specs.Table.{table}
 use Rattle.pages.specs.Pages.{pages}
@@ -11,19 +12,23 @@ use Rattle.prepare.proofs.CallRefusals.{checks-texts, checks-passed, checks-refu
 use Rattle.compare.proofs.order_accepted.Goals as goal
 
 -- what is left of the call decides
-pub returns-in-Passed : goal.returns-in-Passed
-returns-in-Passed c =
-    let checked : let args = c.args in ChecksCall (collation_of args.collation) (length args.first.now) (length args.second.now) (table args.entries.now args.pool.now) (pages args.presence.now args.ranks.now) c.check_texts-texts.result =
-    checks-texts c.requires c.check_texts-texts.ensures in
-    let called = c in
-    let told = called in
-    let passed = checks-passed (checked) told.in-Passed.is in
-    called-ready passed.known passed.refusal called.order_ready.ensures
+pub returns : goal.returns
+returns c =
+    let t = table c.args.entries.now c.args.pool.now in
+    let p = pages c.args.presence.now c.args.ranks.now in
+    let checked : ChecksCall (collation_of c.args.collation) (length c.args.first.now) (length c.args.second.now) t p c.check_texts.result =
+    checks-texts c.requires c.check_texts.ensures
+    in
+    let passed = checks-passed checked c.in_ok-known.was in
+    called-ready passed.known passed.refusal c.order_ready.ensures
 
 -- refused for a text
-pub returns-in-Refused : goal.returns-in-Refused
-returns-in-Refused c =
-    let checked : let args = c.args in ChecksCall (collation_of args.collation) (length args.first.now) (length args.second.now) (table args.entries.now args.pool.now) (pages args.presence.now args.ranks.now) c.check_texts-texts.result =
-    checks-texts c.requires c.check_texts-texts.ensures in
-    let known = c in
-    called-refused (checks-refused (checked) known.in-Refused.is) refl
+pub returns-in_err-known : goal.returns-in_err-known
+returns-in_err-known c =
+    let t = table c.args.entries.now c.args.pool.now in
+    let p = pages c.args.presence.now c.args.ranks.now in
+    let checked : ChecksCall (collation_of c.args.collation) (length c.args.first.now) (length c.args.second.now) t p c.check_texts.result =
+    checks-texts c.requires c.check_texts.ensures
+    in
+    let passed = err_from_is_err_and c.from_residual.result c.from_residual.ensures.1 in
+    rw (passed.1, passed.2) (called-refused (checks-refused checked c.in_err-known.was) refl)

@@ -3,9 +3,5 @@
 use Rattle.compare.proofs.Calls.{orders-shown}
 use Rattle.compare.proofs.order_ready.Goals as goal
 
--- what they show is ordered
-pub returns-in-Both : goal.returns-in-Both
-returns-in-Both c =
-    let known = c in
-    orders-shown known.fill_two-pair.ensures known.in-Both.is
-    c.order_shown.ensures
+pub returns : goal.returns
+returns c = orders-shown c.fill_two.ensures c.in_ok-one.was c.order_shown.ensures

@@ -8,11 +8,8 @@ use Rattle.table.specs.Table.{table, mapping_of}
 use Rattle.decompose.proofs.Unfolding.{Sizing}
 use Rattle.decompose.proofs.+size_unfolded.Given as goal
 
-abbrev pub invariant-loop-i : goal.invariant-loop-i
-invariant-loop-i l = Sizing (mapping_of (table l.entries l.pool)) (l.levels_left - 1) l.parts l.octets l.asked l.i
-
-abbrev pub decreases-loop-i : goal.decreases-loop-i
-decreases-loop-i l = length l.parts - l.i
+abbrev pub invariant-loop-number : goal.invariant-loop-number
+invariant-loop-number l = Sizing (mapping_of (table l.entries l.pool)) (l.levels_left - 1) l.parts l.octets l.asked l.number-index
 
 -- the recursion's measure: twice the levels left, and one where there are no parts
 abbrev pub decreases-size_unfolded : goal.decreases-size_unfolded

@@ -9,11 +9,8 @@ use Rattle.table.specs.Table.{table, mapping_of}
 use Rattle.decompose.proofs.Unfolding.{Writing}
 use Rattle.decompose.proofs.+write_unfolded.Given as goal
 
-abbrev pub invariant-loop-i : goal.invariant-loop-i
-invariant-loop-i l = Writing (mapping_of (table l.entries l.pool)) (l.levels_left - 1) l.parts l.initial.out l.at l.asks l.i l.out
-
-abbrev pub decreases-loop-i : goal.decreases-loop-i
-decreases-loop-i l = length l.parts - l.i
+abbrev pub invariant-loop-number : goal.invariant-loop-number
+invariant-loop-number l = Writing (mapping_of (table l.entries l.pool)) (l.levels_left - 1) l.parts l.initial.out l.at l.asks l.number-index l.out
 
 -- the recursion's measure: twice the levels left, and one where there are no parts
 abbrev pub decreases-write_unfolded : goal.decreases-write_unfolded

@@ -1,7 +1,7 @@
 -- `decompose::check_table` meets its contract: what `check_form` answers is the whole answer, or leaves it to `check_levels`.
 -- Assumes nothing.
 use mathlib.Core.Path.{◌≡◌, refl, sym, ap, ◌∙◌}
-use mathlib.Core.Option.{Option, none, some}
+use Rattle.std.specs.Prelude.{Option, None, Some}
 use mathlib.Core.List.{[]}
 use Rattle.terms.specs.Lists.{or_else}
 use Rattle.terms.specs.Refusals.{refused, answer, check_outcome}
@@ -9,17 +9,18 @@ use Rattle.terms.specs.declared.Refusal.{Refusal}
 use Rattle.terms.proofs.Checks.{answer-given}
 use Rattle.table.specs.Table.{Table, table, refused_at, form_refusal}
 use Rattle.decompose.specs.TableCheck.{level_fault, table_refusal, table_answer}
+use Rattle.std.proofs.lemmas.Result.{err_from_is_err_and}
 use Rattle.decompose.proofs.check_table.Goals as goal
 
 -- a table of the form: 7 decides
-answer-levels : (t : Table) → form_refusal t ≡ none
+answer-levels : (t : Table) → form_refusal t ≡ None
     → answer (refused_at 7 (level_fault t)) [] ≡ table_answer t
 unfolding table_refusal
 answer-levels t form = rw form (go (refused_at 7 (level_fault t)))
   where
-    go : (o : Option Refusal) → answer o [] ≡ answer (or_else o none) []
-    go none = refl
-    go (some r) = refl
+    go : (o : Option Refusal) → answer o [] ≡ answer (or_else o None) []
+    go None = refl
+    go (Some r) = refl
 
 -- any other: the refusal of the form
 answer-form : (t : Table) (r : Refusal) → refused r ≡ answer (form_refusal t) []
@@ -28,20 +29,20 @@ unfolding table_refusal
 answer-form t r e = go (form_refusal t) e
   where
     go : (o : Option Refusal) → refused r ≡ answer o []
-        → refused r ≡ answer (or_else o (or_else (refused_at 7 (level_fault t)) none)) []
-    go none q = cc
-    go (some s) q = q
+        → refused r ≡ answer (or_else o (or_else (refused_at 7 (level_fault t)) None)) []
+    go None q = cc
+    go (Some s) q = q
 
 -- the levels decide
-pub returns-in-Passed : goal.returns-in-Passed
-returns-in-Passed c =
-    let form : form_refusal ((let a = c.args in table a.entries.now a.pool.now)) ≡ none =
-    answer-given _ _ _ (sym (ap check_outcome c.in-Passed.is) ∙ c.check_form-form.ensures) in
-    c.check_levels.ensures ∙ answer-levels ((let a = c.args in table a.entries.now a.pool.now)) (form)
+pub returns : goal.returns
+returns c =
+    let t = table c.args.entries.now c.args.pool.now in
+    let form : form_refusal t ≡ None = answer-given _ _ _ (sym (ap check_outcome c.in_ok-check_form.was) ∙ c.check_form.ensures) in
+    c.check_levels.ensures ∙ answer-levels t form
 
 -- refused for its form
-pub returns-in-Refused : goal.returns-in-Refused
-returns-in-Refused c =
-    let checked = c in
-    answer-form ((let a = c.args in table a.entries.now a.pool.now)) _
-    (sym (ap check_outcome c.in-Refused.is) ∙ checked.check_form-form.ensures)
+pub returns-in_err-check_form : goal.returns-in_err-check_form
+returns-in_err-check_form c =
+    let t = table c.args.entries.now c.args.pool.now in
+    let passed = err_from_is_err_and c.from_residual.result c.from_residual.ensures.1 in
+    rw (passed.1, passed.2) (answer-form t _ (sym (ap check_outcome c.in_err-check_form.was) ∙ c.check_form.ensures))

@@ -3,7 +3,7 @@
 -- Assumes nothing.
 use native.Mathlib.Omega.{arith}
 use mathlib.Core.Path.{◌≡◌, sym, ap, ◌∙◌}
-use mathlib.Core.Option.{none}
+use Rattle.std.specs.Prelude.{None}
 use Rattle.terms.specs.Refusals.{levels_most}
 use Rattle.table.specs.Table.{table, form_refusal, entry_parts, mapping_of}
 use Rattle.pages.specs.Pages.{pages}
@@ -16,7 +16,7 @@ use Rattle.decompose.proofs.size_expansion.Goals as goal
 
 pub find_entry-place-requires : goal.find_entry-place-requires
 find_entry-place-requires c =
-    let form : form_refusal ((table c.args.entries.now c.args.pool.now)) ≡ none =
+    let form : form_refusal ((table c.args.entries.now c.args.pool.now)) ≡ None =
     accepted-form ((table c.args.entries.now c.args.pool.now)) c.requires.usable.accepted in
     let findable : Findable ((table c.args.entries.now c.args.pool.now)) (pages c.args.presence.now c.args.ranks.now) =
     record { form = form; paged = c.requires.usable.paged } in
@@ -25,7 +25,7 @@ find_entry-place-requires c =
 
 pub title_parts-parts-requires : goal.title_parts-parts-requires
 title_parts-parts-requires c =
-    let form : form_refusal ((table c.args.entries.now c.args.pool.now)) ≡ none =
+    let form : form_refusal ((table c.args.entries.now c.args.pool.now)) ≡ None =
     accepted-form ((table c.args.entries.now c.args.pool.now)) c.requires.usable.accepted in
     let findable : Findable ((table c.args.entries.now c.args.pool.now)) (pages c.args.presence.now c.args.ranks.now) =
     record { form = form; paged = c.requires.usable.paged } in
@@ -51,7 +51,7 @@ size_unfolded-unfolded-requires c =
     let bounded : Bounded (mapping_of ((table c.args.entries.now c.args.pool.now))) levels_most c.title_of-title.result.0 =
     let s = c in
     bounded_unfolds (mapping_of ((table c.args.entries.now c.args.pool.now))) c.title_of-title.result.0 (accepted-all ((table c.args.entries.now c.args.pool.now)) s.requires.usable.accepted c.title_of-title.result.0) in
-    let form : form_refusal ((table c.args.entries.now c.args.pool.now)) ≡ none =
+    let form : form_refusal ((table c.args.entries.now c.args.pool.now)) ≡ None =
     accepted-form ((table c.args.entries.now c.args.pool.now)) c.requires.usable.accepted in
     let findable : Findable ((table c.args.entries.now c.args.pool.now)) (pages c.args.presence.now c.args.ranks.now) =
     record { form = form; paged = c.requires.usable.paged } in

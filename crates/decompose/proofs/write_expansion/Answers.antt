@@ -4,7 +4,7 @@
 use native.Mathlib.Omega.{arith}
 use mathlib.Core.Path.{◌≡◌, sym, ap, ◌∙◌}
 use mathlib.Core.Bool.{true}
-use mathlib.Core.Option.{none}
+use Rattle.std.specs.Prelude.{None}
 use mathlib.Core.List.{[]}
 use Rattle.terms.specs.CodePoints.{scalar}
 use Rattle.terms.specs.Refusals.{levels_most}
@@ -21,7 +21,7 @@ use Rattle.decompose.proofs.write_expansion.Goals as goal
 
 pub find_entry-place-requires : goal.find_entry-place-requires
 find_entry-place-requires c =
-    let form : form_refusal ((table c.args.entries.now c.args.pool.now)) ≡ none =
+    let form : form_refusal ((table c.args.entries.now c.args.pool.now)) ≡ None =
     accepted-form ((table c.args.entries.now c.args.pool.now)) c.requires.usable.accepted in
     let findable : Findable ((table c.args.entries.now c.args.pool.now)) (pages c.args.presence.now c.args.ranks.now) =
     record { form = form; paged = c.requires.usable.paged } in
@@ -30,7 +30,7 @@ find_entry-place-requires c =
 
 pub title_parts-parts-requires : goal.title_parts-parts-requires
 title_parts-parts-requires c =
-    let form : form_refusal ((table c.args.entries.now c.args.pool.now)) ≡ none =
+    let form : form_refusal ((table c.args.entries.now c.args.pool.now)) ≡ None =
     accepted-form ((table c.args.entries.now c.args.pool.now)) c.requires.usable.accepted in
     let findable : Findable ((table c.args.entries.now c.args.pool.now)) (pages c.args.presence.now c.args.ranks.now) =
     record { form = form; paged = c.requires.usable.paged } in
@@ -46,7 +46,7 @@ write_character-octets-requires c =
     let read = looked in
     listed-none ((table c.args.entries.now c.args.pool.now)) read.title_of-title.result.0 _ (parts)
     (sym looked.decomposes.ensures ∙ c.if-not-decomposes.true) in
-    let form : form_refusal ((table c.args.entries.now c.args.pool.now)) ≡ none =
+    let form : form_refusal ((table c.args.entries.now c.args.pool.now)) ≡ None =
     accepted-form ((table c.args.entries.now c.args.pool.now)) c.requires.usable.accepted in
     let title : let s = c in title_of ((table c.args.entries.now c.args.pool.now)).entries s.args.c.0 ≡ c.title_of-title.result.0 =
     sym c.title_of-title.ensures in
@@ -83,7 +83,7 @@ write_unfolded-unfolded-requires c =
     let bounded : Bounded (mapping_of ((table c.args.entries.now c.args.pool.now))) levels_most c.title_of-title.result.0 =
     let s = c in
     bounded_unfolds (mapping_of ((table c.args.entries.now c.args.pool.now))) c.title_of-title.result.0 (accepted-all ((table c.args.entries.now c.args.pool.now)) s.requires.usable.accepted c.title_of-title.result.0) in
-    let form : form_refusal ((table c.args.entries.now c.args.pool.now)) ≡ none =
+    let form : form_refusal ((table c.args.entries.now c.args.pool.now)) ≡ None =
     accepted-form ((table c.args.entries.now c.args.pool.now)) c.requires.usable.accepted in
     let findable : Findable ((table c.args.entries.now c.args.pool.now)) (pages c.args.presence.now c.args.ranks.now) =
     record { form = form; paged = c.requires.usable.paged } in

@@ -1,42 +1,32 @@
--- `octets::compare_blocks` meets its contract. The loop's invariant: `i` is within both slices, and the order is that of what
--- follows `i` in each. The measure is what is left of the shorter one.
+-- `octets::compare_blocks` meets its contract.
 -- Assumes nothing.
 use mathlib.Core.Path.{sym, ◌∙◌}
-use native.Mathlib.Omega.{arith}
-use Rattle.octets.proofs.Numbers.{read_lower, read-higher, read_same}
+use Rattle.octets.proofs.Numbers.{begins-eight, read_unequal, read_same, octets-left}
 use Rattle.octets.proofs.compare_blocks.Goals as goal
 
--- the first block is lower
-pub returns-then-block_a-block_b : goal.returns-then-block_a-block_b
-returns-then-block_a-block_b c =
-    let block = c in
-    let l = block in
-    let a = l.args in
-    sym
-    (l.loop-i.invariant.1
-    ∙ read_lower a.a.now a.b.now 8 l.loop-i.i block.eight-block_a.result block.eight-block_b.result
-    block.eight-block_a.ensures block.eight-block_b.ensures (omega arith) (omega arith) (omega (arith, c.if-block_a-block_b.true)))
+-- octets that differ
+pub returns-in_default-cmp : goal.returns-in_default-cmp
+returns-in_default-cmp c =
+    let l = c.loop-block_a.invariant in
+    read_unequal
+    (begins-eight l.octets_a c.in-Some-Some.ensures.cases c.from_be_bytes.ensures)
+    (begins-eight l.octets_b c.in-Some-Some.ensures'.cases c.from_be_bytes-in-Some-Some.ensures)
+    c.cmp.ensures
+    c.in_default-cmp.not-Equal
+    ∙ sym l.same
 
--- the second block is lower
-pub returns-then-block_b-block_a : goal.returns-then-block_b-block_a
-returns-then-block_b-block_a c =
-    let block = c in
-    let l = block in
-    let a = l.args in
-    sym
-    (l.loop-i.invariant.1
-    ∙ read-higher a.a.now a.b.now 8 l.loop-i.i block.eight-block_a.result block.eight-block_b.result
-    block.eight-block_a.ensures block.eight-block_b.ensures (omega arith) (omega arith) (omega (arith, c.if-block_b-block_a.true)))
-
--- the blocks are the same
-pub loop-i-preserved : goal.loop-i-preserved
-loop-i-preserved c =
-    let block = c in
-    let l = block in
-    let a = l.args in (
-      omega arith,
-      l.loop-i.invariant.1
-          ∙ read_same a.a.now a.b.now 8 l.loop-i.i block.eight-block_a.result block.eight-block_b.result
-          block.eight-block_a.ensures block.eight-block_b.ensures (omega arith) (omega arith)
-          (omega (arith, c.if-block_a-block_b.false)) (omega (arith, c.if-block_b-block_a.false)),
-    )
+-- octets that are the same
+pub loop-block_a-preserved : goal.loop-block_a-preserved
+loop-block_a-preserved c =
+    let l = c.loop-block_a.invariant in
+    record {
+      same =
+          l.same
+          ∙ read_same
+          (begins-eight l.octets_a c.in-Some-Some.ensures.cases c.from_be_bytes.ensures)
+          (begins-eight l.octets_b c.in-Some-Some.ensures'.cases c.from_be_bytes-in-Some-Some.ensures)
+          c.cmp.ensures
+          c.in-Equal.is;
+      octets_a = octets-left 8 _ l.octets_a c.in-Some-Some.ensures.cases;
+      octets_b = octets-left 8 _ l.octets_b c.in-Some-Some.ensures'.cases;
+    }

@@ -1,28 +1,13 @@
--- `pairing::find_tab` meets its contract. The loop's invariant: no octet before the one reached is a tab. The measure is what
--- is left.
+-- `pairing::find_tab` meets its contract: std's first place of a tab is the lowest.
 -- Assumes nothing.
-use mathlib.Core.Path.{sym}
-use Prim.Native.Nat.{◌-◌}
-use native.Mathlib.Omega.{arith}
-use lib.ListN.{length, get_or}
-use borrow.Author.Tests.{eq-eqb}
-use Rattle.terms.proofs.Lowest.{lowest-is, lowest-nowhere}
-use Rattle.pairing.specs.Pairing.{is_tab}
+use Rattle.std.proofs.Common.{◌∙◌, rules, tests, eqb}
+use Rattle.std.proofs.lemmas.Iterator.{YieldsList-from_slice}
+use Rattle.std.proofs.lemmas.Iterator.Search.{position_from_yields_List}
+use Rattle.pairing.proofs.Tabs.{first-tab}
 use Rattle.pairing.proofs.find_tab.Goals as goal
 
--- the tab
-pub returns-then-line-i-eq-TAB : goal.returns-then-line-i-eq-TAB
-returns-then-line-i-eq-TAB c =
-    let l = c in
-    let line = l.args.line.now in
-    let i = l.loop-i.i in
-    sym
-    (lowest-is (is_tab line) (length line) i c.loop-i-test.true (eq-eqb (get_or line i 0) 9 c.if-line-i-eq-TAB.true)
-    l.loop-i.invariant)
-
--- the end
 pub returns : goal.returns
 returns c =
-    let l = c in
-    let line = l.args.line.now in
-    sym (lowest-nowhere (is_tab line) (length line) (λ k h. l.loop-i.invariant k (omega arith)))
+    position_from_yields_List (λ o. eqb o 0x09) _ _ _ c.position.ensures.ran (YieldsList-from_slice c.args.line.now (cc))
+    (λ x b q k. search (rules, tests))
+    ∙ first-tab c.args.line.now

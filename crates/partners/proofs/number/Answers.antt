@@ -1,6 +1,6 @@
--- `partners::number` meets its contract. The invariant: so many places are filled; what falls is how many are left.
+-- `partners::number` meets its contract. The invariant: so many places are filled.
 -- Assumes nothing.
-use Prim.Native.Nat.{◌-◌}
+use native.Mathlib.Omega.{arith}
 use Rattle.partners.proofs.Numbering.{numbering_start, numbering-more}
 use Rattle.partners.proofs.number.Goals as goal
 
@@ -8,4 +8,4 @@ pub loop-i-init : goal.loop-i-init
 loop-i-init c = numbering_start c.args.row.now
 
 pub loop-i-preserved : goal.loop-i-preserved
-loop-i-preserved c = numbering-more c.loop-i.invariant c.loop-i-test.true
+loop-i-preserved c = numbering-more c.loop-i.invariant (omega (arith, c.loop-i-test.true, c.loop-i.auto.row))

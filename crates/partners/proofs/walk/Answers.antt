@@ -1,10 +1,11 @@
--- `partners::walk` meets its contract. The invariant: the walk stands at a place, with what is known there (`Reached`);
--- what falls is the place.
+-- `partners::walk` meets its contract. The invariant: the walk stands at a place, with what is known there (`Reached`).
 -- Assumes nothing.
 use mathlib.Core.Path.{◌≡◌, refl, ap, ◌∙◌}
 use Prim.Native.Nat.{ℕ, ◌+◌, ◌-◌, ◌≤◌, ◌<◌}
 use native.Mathlib.Omega.{arith}
-use mathlib.Core.Bool.{Bool, true, false, cond}
+use mathlib.Core.Bool.{Bool, true, false, cond, not}
+use Rattle.std.specs.Prelude.{nat_eq}
+use Rattle.std.specs.Int.{from_bool}
 use mathlib.Core.List.{List}
 use lib.Dec.{eqb}
 use lib.ListN.{length}
@@ -23,6 +24,14 @@ few n = go (eqb n 0)
     go : (b : Bool) → cond {A = ℕ} b 0 1 ≤ 1
     go true = omega arith
     go false = omega arith
+
+-- 1 for a group that has a number
+counted : (n : ℕ) → from_bool (not (nat_eq n 0)) ≡ cond {A = ℕ} (eqb n 0) 0 1
+counted n = go (eqb n 0)
+  where
+    go : (b : Bool) → from_bool (not b) ≡ cond {A = ℕ} b 0 1
+    go true = refl
+    go false = refl
 
 pub loop-i-init : goal.loop-i-init
 loop-i-init c =
@@ -122,7 +131,7 @@ overflow_add-partnered c =
     t.if-x-middle.true
     (firsts)
     in
-    omega (arith, names, long, s.requires.ends_len_bound, few t.group_at-group.result.count, c.one_if_any-partnered.ensures)
+    omega (arith, names, long, s.requires.ends_len_bound, few t.group_at-group.result.count, c.from-partnered.ensures, counted t.group_at-group.result.count)
 
 pub loop-i-preserved-then-x-middle : goal.loop-i-preserved-then-x-middle
 loop-i-preserved-then-x-middle c =
@@ -136,7 +145,7 @@ loop-i-preserved-then-x-middle c =
     let t = c in
     let l = t in
     let s = l in
-    rw c.one_if_any-partnered.ensures
+    rw (c.from-partnered.ensures, counted t.group_at-group.result.count)
     (reached-first ((key_in c.args.store.now c.args.ends.now)) s.args.middle s.args.row.now s.args.partners.now s.args.positions.now
     l.loop-i.invariant
     t.loop-i-test.true

@@ -4,12 +4,5 @@ use Rattle.search.proofs.Seeking.{both-shows}
 use Rattle.search.proofs.seek_ready.Goals as goal
 
 -- both texts show their keys
-pub seek_shown-requires : goal.seek_shown-requires
-seek_shown-requires c =
-    let known = c in
-    let called = known in
-    record {
-      usable_under = called.requires.usable_under;
-      shows = both-shows
-          called.fill_two-pair.ensures known.in-Both.is;
-    }
+pub seek_shown-requires-clause-shows : goal.seek_shown-requires-clause-shows
+seek_shown-requires-clause-shows c = both-shows c.fill_two.ensures c.in_ok-one.was

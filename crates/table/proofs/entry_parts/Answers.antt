@@ -1,10 +1,10 @@
 -- `table::entry_parts` meets its contract: the answer of the search says which case of `parts_in` holds.
 -- Assumes nothing.
 use native.Mathlib.Omega.{arith}
-use mathlib.Core.Path.{◌≡◌, sym, ap, ◌∙◌}
-use mathlib.Core.Option.{some}
+use mathlib.Core.Path.{◌≡◌, sym, ◌∙◌}
+use Rattle.std.specs.Prelude.{Some}
 use Rattle.table.specs.Table.{table, entry_of}
-use Rattle.table.specs.Promises.{place_found, Ascending}
+use Rattle.table.specs.Promises.{Ascending}
 use Rattle.table.proofs.Form.{formed-ascending, entry_of-some, entry_parts-none}
 use Rattle.table.proofs.Search.{candidates-none}
 use Rattle.table.proofs.entry_parts.Goals as goal
@@ -32,7 +32,7 @@ find_among-requires c =
 -- the entry is one
 pub parts_at-requires : goal.parts_at-requires
 parts_at-requires c =
-    let found : entry_of c.args.entries.now c.args.c.0 ≡ some c.in-At.i =
-    sym c.find_among.ensures ∙ ap place_found c.in-At.is in
+    let found : entry_of c.args.entries.now c.args.c.0 ≡ Some c.in-Some.i =
+    sym c.find_among.ensures ∙ c.in-Some.is in
     let s = c in
     record { pool_value = s.requires; i_bound = (entry_of-some s.args.entries.now s.args.c.0 _ (found)).0 }

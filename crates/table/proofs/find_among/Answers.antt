@@ -41,8 +41,8 @@ returns-then-found-sought c =
     cc (entry_of-entry s.args.entries.now s.requires.ascending l.loop-left.first (omega arith), c.if-found-sought.true, read.code_at-found.ensures)
 
 -- it is another's
-pub returns : goal.returns
-returns c =
+pub returns-else-found-sought : goal.returns-else-found-sought
+returns-else-found-sought c =
     let read = c in
     let l = read in
     sym (candidates-other l.requires.ascending l.loop-left.invariant.1 l.loop-left.invariant.0 (omega arith)

@@ -1,6 +1,6 @@
 -- `table::parts_at` meets its contract: the form of the table says that the parts of an entry lie in the pool.
 -- Assumes nothing.
-use Prim.Native.Nat.{◌+◌, ◌-◌, ◌≤◌}
+use Prim.Native.Nat.{◌+◌, ◌≤◌}
 use native.Mathlib.Omega.{arith}
 use lib.ListN.{length}
 use Rattle.table.specs.Layout.{start_at, count_at}

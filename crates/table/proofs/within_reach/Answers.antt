@@ -14,12 +14,11 @@ returns-then-sought-least c =
       above = λ k l m. omega (arith, ascending-from s.args.entries.now s.requires k m);
     }
 
--- fewer than all
-pub returns-then-reach-count : goal.returns-then-reach-count
-returns-then-reach-count c =
-    let s = c in
+-- those within reach, or all
+pub returns : goal.returns
+returns c =
     record {
       within = omega arith;
       first = λ l. omega arith;
-      above = λ k l m. omega (arith, ascending-from s.args.entries.now s.requires k m);
+      above = λ k l m. omega (arith, ascending-from c.args.entries.now c.requires k m);
     }

@@ -1,170 +1,76 @@
 -- `ucd::read_line` meets its contract: what was found of the line and of each field says which check applies, or none.
 -- Assumes nothing.
-use mathlib.Core.Path.{◌≡◌, sym, ◌∙◌, ap, subst}
-use mathlib.Core.Bool.{true, false, not}
-use mathlib.Core.Option.{some}
-use mathlib.Core.List.{[], ◌∷◌}
-use Prim.Native.Nat.{◌≤◌}
-use lib.Dec.{ltb, eqb}
-use lib.ListN.{length, take}
-use borrow.Author.Tests.{lt-ltb, le-ltb, eq-eqb, ne_eqb}
-use Rattle.terms.specs.Refusals.{line_most, parts_most, first}
-use Rattle.ucd.specs.Fields.{fields, field, code_point, decomposition, optional}
-use Rattle.ucd.specs.Lines.{line_check, reading_refusal}
-use Rattle.ucd.specs.Promises.{number_read, TitlecaseRead, parts_read, parts_count}
-use Rattle.ucd.specs.declared.cases.Titlecase.{Titlecase}
-use Rattle.ucd.specs.declared.parts.Parts.{Parts}
-use Rattle.ucd.proofs.Titlecase.{titlecase-formed}
-use Rattle.ucd.proofs.Lines.{line_properties-some}
+use Rattle.std.proofs.Common.{◌≡◌, sym, ◌∙◌, ap, subst, ℕ, Option, length, ◌≤◌}
+use Rattle.std.proofs.lemmas.Result.{err_from_is_err_and}
+use Rattle.std.specs.Prelude.{unwrap_or}
+use Rattle.terms.specs.Refusals.{parts_most}
+use Rattle.ucd.specs.Fields.{fields, code_point, decomposition}
+use Rattle.ucd.specs.Promises.{number_read, TitlecaseRead, parts_read}
+use Rattle.ucd.proofs.Options.{missing, present}
+use Rattle.ucd.proofs.Lines.{code_found, parts_found, line_properties-some}
+use Rattle.ucd.proofs.Lines.{refused_length, refused_count, refused_code, refused_parts, refused_case, unrefused}
 use Rattle.ucd.proofs.read_line.Goals as goal
 
 -- too long
 pub returns-then-line-gt-LINE_MOST : goal.returns-then-line-gt-LINE_MOST
-unfolding reading_refusal
-returns-then-line-gt-LINE_MOST c = rw (lt-ltb line_most (length c.args.line.now) c.if-line-gt-LINE_MOST.true)
+returns-then-line-gt-LINE_MOST c = refused_length c.args.line.now c.if-line-gt-LINE_MOST.true
 
 -- not 15 fields
 pub returns-then-count_fields-ne15 : goal.returns-then-count_fields-ne15
-unfolding reading_refusal
 returns-then-count_fields-ne15 c =
-    let short : ltb line_most (length ((c.args.line.now))) ≡ false =
-    le-ltb line_most (length ((c.args.line.now))) c.if-line-gt-LINE_MOST.false in
-    let n = c in
-    rw (
-      short,
-      ne_eqb (length (fields ((c.args.line.now)))) 15 (rw n.count_fields.ensures at c.if-count_fields-ne15.true),
-    )
+    refused_count c.args.line.now c.if-line-gt-LINE_MOST.false (rw c.count_fields.ensures at c.if-count_fields-ne15.true)
 
 -- field 0 is malformed
-pub returns-in_default : goal.returns-in_default
-unfolding reading_refusal
-returns-in_default c =
-    let code : number_read c.read_code_point-read.result ≡ code_point (field 0 ((c.args.line.now))) =
-    c.read_code_point-read.ensures ∙ ap code_point c.find_field.ensures in
-    let short : ltb line_most (length ((c.args.line.now))) ≡ false =
-    le-ltb line_most (length ((c.args.line.now))) c.if-line-gt-LINE_MOST.false in
-    let fifteen : length (fields ((c.args.line.now))) ≡ 15 =
-    sym c.count_fields.ensures ∙ c.if-count_fields-ne15.false in
-    let whole : eqb (length (fields ((c.args.line.now)))) 15 ≡ true =
-    eq-eqb (length (fields ((c.args.line.now)))) 15 (fifteen) in
-    let r = c in
-    rw (
-      short,
-      whole,
-      sym (code) ∙ ap number_read c.in_default.is,
-    )
+pub returns-in_err-code : goal.returns-in_err-code
+returns-in_err-code c =
+    let none = missing c.read_code_point.result _ _ c.ok_or.ensures.value c.in_err-code.was in
+    let code = sym (ap code_point c.find_field.ensures) ∙ sym c.read_code_point.ensures ∙ ap number_read none.0 in
+    let err = err_from_is_err_and c.from_residual.result c.from_residual.ensures.1 in
+    let whole : length (fields c.args.line.now) ≡ 15 = sym c.count_fields.ensures ∙ c.if-count_fields-ne15.false in
+    rw (err.1, err.2, ← none.1) (refused_code c.args.line.now c.if-line-gt-LINE_MOST.false whole code)
 
--- field 5 is malformed
-pub returns-in_default-listed : goal.returns-in_default-listed
-unfolding reading_refusal
-returns-in_default-listed c =
-    let code : number_read c.read_code_point-read.result ≡ code_point (field 0 ((c.args.line.now))) =
-    c.read_code_point-read.ensures ∙ ap code_point c.find_field.ensures in
-    let coded : code_point (field 0 (((c.args.line.now)))) ≡ some c.in-Value.code.0 =
-    sym (code) ∙ ap number_read c.in-Value.is in
-    let parts : parts_read c.read_parts-listed.result ((c.read_parts-listed.new.parts)) ≡ decomposition (field 5 (((c.args.line.now)))) =
-    c.read_parts-listed.ensures.read ∙ ap decomposition c.find_field-2.ensures in
-    let short : ltb line_most (length ((c.args.line.now))) ≡ false =
-    le-ltb line_most (length ((c.args.line.now))) c.if-line-gt-LINE_MOST.false in
-    let fifteen : length (fields ((c.args.line.now))) ≡ 15 =
-    sym c.count_fields.ensures ∙ c.if-count_fields-ne15.false in
-    let whole : eqb (length (fields ((c.args.line.now)))) 15 ≡ true =
-    eq-eqb (length (fields ((c.args.line.now)))) 15 (fifteen) in
-    let r = c in
-    let at = r in
-    rw (
-      short,
-      whole,
-      coded,
-      sym (parts) ∙ ap (λ (x : Parts). parts_read x ((c.read_parts-listed.new.parts))) c.in_default-listed.is,
-    )
+-- field 5 is
+pub returns-in_err-count : goal.returns-in_err-count
+returns-in_err-count c =
+    let code =
+    code_found _ _ _ _ _ c.find_field.ensures c.read_code_point.ensures c.ok_or.ensures.value c.in_ok-code.was in
+    let none = missing c.read_parts.result _ _ c.ok_or-2.ensures.value c.in_err-count.was in
+    let parts =
+    sym (ap decomposition c.find_field-2.ensures)
+    ∙ sym c.read_parts.ensures.read
+    ∙ ap (λ (r : Option ℕ). parts_read r c.read_parts.new.parts) none.0 in
+    let err = err_from_is_err_and c.from_residual-in_err-count.result c.from_residual-in_err-count.ensures.1 in
+    let whole : length (fields c.args.line.now) ≡ 15 = sym c.count_fields.ensures ∙ c.if-count_fields-ne15.false in
+    rw (err.1, err.2, ← none.1) (refused_parts c.args.line.now c.if-line-gt-LINE_MOST.false whole _ code parts)
 
--- all are well formed
-pub returns-in-Value-cased : goal.returns-in-Value-cased
-unfolding reading_refusal
-returns-in-Value-cased c =
-    let cased : (r : Titlecase) → c.read_titlecase-cased.result ≡ r → TitlecaseRead ((c.in-Value.code.0)) ((((c.args.line.now)))) r =
-    λ r e. subst (TitlecaseRead ((c.in-Value.code.0)) ((((c.args.line.now))))) e c.read_titlecase-cased.ensures in
-    let code : number_read c.read_code_point-read.result ≡ code_point (field 0 ((c.args.line.now))) =
-    c.read_code_point-read.ensures ∙ ap code_point c.find_field.ensures in
-    let coded : code_point (field 0 (((c.args.line.now)))) ≡ some c.in-Value.code.0 =
-    sym (code) ∙ ap number_read c.in-Value.is in
-    let few : c.in-Count.count ≤ parts_most =
-    subst (λ (r : Parts). parts_count r ≤ parts_most) c.in-Count.is c.read_parts-listed.ensures.within in
-    let parts : parts_read c.read_parts-listed.result ((c.read_parts-listed.new.parts)) ≡ decomposition (field 5 (((c.args.line.now)))) =
-    c.read_parts-listed.ensures.read ∙ ap decomposition c.find_field-2.ensures in
-    let listed : decomposition (field 5 ((((c.args.line.now))))) ≡ some (take c.in-Count.count ((c.read_parts-listed.new.parts))) =
-    sym (parts) ∙ ap (λ (r : Parts). parts_read r ((c.read_parts-listed.new.parts))) c.in-Count.is in
-    let short : ltb line_most (length ((c.args.line.now))) ≡ false =
-    le-ltb line_most (length ((c.args.line.now))) c.if-line-gt-LINE_MOST.false in
-    let fifteen : length (fields ((c.args.line.now))) ≡ 15 =
-    sym c.count_fields.ensures ∙ c.if-count_fields-ne15.false in
-    let whole : eqb (length (fields ((c.args.line.now)))) 15 ≡ true =
-    eq-eqb (length (fields ((c.args.line.now)))) 15 (fifteen) in
-    let so_far : let line = (((c.args.line.now))) in reading_refusal line ≡ first (line_check (not (optional (field 12 line))) 29 ∷ line_check (not (optional (field 14 line))) 24 ∷ []) =
-    let code = c in
-    let at = code in
-    rw (short, whole, coded, listed) in
-    let r = c in
-    let d = r in
-    let said = cased _ c.in-Value-cased.is in
-    let formed = titlecase-formed ((c.in-Value.code.0)) (field 12 ((((c.args.line.now))))) (field 14 ((((c.args.line.now))))) _ said in
+-- field 12 or 14 is
+pub returns-in_err-title : goal.returns-in_err-title
+returns-in_err-title c =
+    let code =
+    code_found _ _ _ _ _ c.find_field.ensures c.read_code_point.ensures c.ok_or.ensures.value c.in_ok-code.was in
+    let parts =
+    parts_found _ _ _ c.read_parts.result _ _ c.find_field-2.ensures c.read_parts.ensures.read c.ok_or-2.ensures.value
+    c.in_ok-count.was in
+    let cased = subst (TitlecaseRead c.in_ok-code.code.0 c.args.line.now) c.in_err-title.was c.read_titlecase.ensures in
+    let err = err_from_is_err_and c.from_residual-in_err-title.result c.from_residual-in_err-title.ensures.1 in
+    let whole : length (fields c.args.line.now) ≡ 15 = sym c.count_fields.ensures ∙ c.if-count_fields-ne15.false in
+    rw (err.1, err.2) (refused_case c.args.line.now c.if-line-gt-LINE_MOST.false whole _ code _ parts _ cased)
+
+-- none is
+pub returns : goal.returns
+returns c =
+    let code =
+    code_found _ _ _ _ _ c.find_field.ensures c.read_code_point.ensures c.ok_or.ensures.value c.in_ok-code.was in
+    let parts =
+    parts_found _ _ _ c.read_parts.result _ _ c.find_field-2.ensures c.read_parts.ensures.read c.ok_or-2.ensures.value
+    c.in_ok-count.was in
+    let cased = subst (TitlecaseRead c.in_ok-code.code.0 c.args.line.now) c.in_ok-title.was c.read_titlecase.ensures in
+    let whole : length (fields c.args.line.now) ≡ 15 = sym c.count_fields.ensures ∙ c.if-count_fields-ne15.false in
     record {
-      unrefused = so_far ∙ rw (formed.0, formed.1);
-      given = line_properties-some _ _ _ _ (coded) (listed) said;
-      within = few;
+      unrefused = unrefused c.args.line.now c.if-line-gt-LINE_MOST.false whole _ code _ parts _ cased;
+      given = line_properties-some _ _ _ _ code parts cased;
+      within =
+          subst (λ (r : Option ℕ). unwrap_or r 0 ≤ parts_most)
+          (present c.read_parts.result _ _ c.ok_or-2.ensures.value c.in_ok-count.was)
+          c.read_parts.ensures.within;
     }
-
--- field 12 is malformed
-pub returns-in-MalformedUppercase : goal.returns-in-MalformedUppercase
-unfolding reading_refusal
-returns-in-MalformedUppercase c =
-    let cased : (r : Titlecase) → c.read_titlecase-cased.result ≡ r → TitlecaseRead ((c.in-Value.code.0)) ((((c.args.line.now)))) r =
-    λ r e. subst (TitlecaseRead ((c.in-Value.code.0)) ((((c.args.line.now))))) e c.read_titlecase-cased.ensures in
-    let code : number_read c.read_code_point-read.result ≡ code_point (field 0 ((c.args.line.now))) =
-    c.read_code_point-read.ensures ∙ ap code_point c.find_field.ensures in
-    let coded : code_point (field 0 (((c.args.line.now)))) ≡ some c.in-Value.code.0 =
-    sym (code) ∙ ap number_read c.in-Value.is in
-    let parts : parts_read c.read_parts-listed.result ((c.read_parts-listed.new.parts)) ≡ decomposition (field 5 (((c.args.line.now)))) =
-    c.read_parts-listed.ensures.read ∙ ap decomposition c.find_field-2.ensures in
-    let listed : decomposition (field 5 ((((c.args.line.now))))) ≡ some (take c.in-Count.count ((c.read_parts-listed.new.parts))) =
-    sym (parts) ∙ ap (λ (r : Parts). parts_read r ((c.read_parts-listed.new.parts))) c.in-Count.is in
-    let short : ltb line_most (length ((c.args.line.now))) ≡ false =
-    le-ltb line_most (length ((c.args.line.now))) c.if-line-gt-LINE_MOST.false in
-    let fifteen : length (fields ((c.args.line.now))) ≡ 15 =
-    sym c.count_fields.ensures ∙ c.if-count_fields-ne15.false in
-    let whole : eqb (length (fields ((c.args.line.now)))) 15 ≡ true =
-    eq-eqb (length (fields ((c.args.line.now)))) 15 (fifteen) in
-    let so_far : let line = (((c.args.line.now))) in reading_refusal line ≡ first (line_check (not (optional (field 12 line))) 29 ∷ line_check (not (optional (field 14 line))) 24 ∷ []) =
-    let code = c in
-    let at = code in
-    rw (short, whole, coded, listed) in
-    let r = c in so_far ∙ rw (cased _ c.in-MalformedUppercase.is)
-
--- field 14 is malformed
-pub returns-in-MalformedTitlecase : goal.returns-in-MalformedTitlecase
-unfolding reading_refusal
-returns-in-MalformedTitlecase c =
-    let cased : (r : Titlecase) → c.read_titlecase-cased.result ≡ r → TitlecaseRead ((c.in-Value.code.0)) ((((c.args.line.now)))) r =
-    λ r e. subst (TitlecaseRead ((c.in-Value.code.0)) ((((c.args.line.now))))) e c.read_titlecase-cased.ensures in
-    let code : number_read c.read_code_point-read.result ≡ code_point (field 0 ((c.args.line.now))) =
-    c.read_code_point-read.ensures ∙ ap code_point c.find_field.ensures in
-    let coded : code_point (field 0 (((c.args.line.now)))) ≡ some c.in-Value.code.0 =
-    sym (code) ∙ ap number_read c.in-Value.is in
-    let parts : parts_read c.read_parts-listed.result ((c.read_parts-listed.new.parts)) ≡ decomposition (field 5 (((c.args.line.now)))) =
-    c.read_parts-listed.ensures.read ∙ ap decomposition c.find_field-2.ensures in
-    let listed : decomposition (field 5 ((((c.args.line.now))))) ≡ some (take c.in-Count.count ((c.read_parts-listed.new.parts))) =
-    sym (parts) ∙ ap (λ (r : Parts). parts_read r ((c.read_parts-listed.new.parts))) c.in-Count.is in
-    let short : ltb line_most (length ((c.args.line.now))) ≡ false =
-    le-ltb line_most (length ((c.args.line.now))) c.if-line-gt-LINE_MOST.false in
-    let fifteen : length (fields ((c.args.line.now))) ≡ 15 =
-    sym c.count_fields.ensures ∙ c.if-count_fields-ne15.false in
-    let whole : eqb (length (fields ((c.args.line.now)))) 15 ≡ true =
-    eq-eqb (length (fields ((c.args.line.now)))) 15 (fifteen) in
-    let so_far : let line = (((c.args.line.now))) in reading_refusal line ≡ first (line_check (not (optional (field 12 line))) 29 ∷ line_check (not (optional (field 14 line))) 24 ∷ []) =
-    let code = c in
-    let at = code in
-    rw (short, whole, coded, listed) in
-    let r = c in
-    let said = cased _ c.in-MalformedTitlecase.is in
-    so_far ∙ rw (said.formed, said.malformed)

@@ -6,31 +6,30 @@ use Prim.Native.Nat.{ℕ, ◌+◌, ◌-◌, ◌≤◌}
 use native.Mathlib.Omega.{arith}
 use mathlib.Core.Path.{◌≡◌, sym, ap, ◌∙◌}
 use mathlib.Core.Bool.{true}
-use mathlib.Core.Option.{none, some}
+use Rattle.std.specs.Prelude.{None, Some}
 use lib.Dec.{leb}
 use lib.ListN.{get_or}
 use borrow.Author.Tests.{le-leb, lt-leb}
 use Rattle.terms.specs.Lists.{when}
 use Rattle.hangul.specs.Hangul.{syllable}
 use Rattle.table.specs.Table.{table, mapping_of}
-use Rattle.decompose.specs.Promises.{measured, measured_size, Split}
+use Rattle.decompose.specs.Promises.{measured, Split}
 use Rattle.decompose.proofs.Walk.{measured-whole, syllable-split, listed-none, listed-some, listed-jamo, listed-split}
 use Rattle.decompose.proofs.Measuring.{measured_parts, measured-parts, measured-none, Measuring, measuring-start}
 use Rattle.decompose.proofs.Measuring.{measuring-more, measuring-done, measuring-stop}
 use Rattle.decompose.proofs.depth.+measure.Goals as goal
-use Rattle.decompose.proofs.depth.+measure.Goals.{then-not-decomposes+else-total-room, else-not-decomposes+in-Fits}
+use Rattle.decompose.proofs.depth.+measure.Goals.{then-not-decomposes+else-total-room, else-not-decomposes+in_ok-total}
 
 -- a syllable, with its jamo for parts
 pub measure-requires : goal.measure-requires
 measure-requires t c =
     let ruled : syllable c.args.c.0 ≡ true =
     c.requires.listed.by-rule c.if-parts-eq0.true in
-    let none = c in
-    let s = none in
+    let s = c in
     let x = s.args.c.0 in
-    let some = (syllable-split ((table c.args.entries.now c.args.pool.now)) x (ruled) c.parts_among-by_rule.ensures).some in
+    let more = (syllable-split ((table c.args.entries.now c.args.pool.now)) x (ruled) c.parts_among-by_rule.ensures).some in
     let listed = listed-jamo ((table c.args.entries.now c.args.pool.now)) x _ (ruled) c.parts_among-by_rule.ensures in
-    (omega (arith, s.decreases, none.if-parts-eq0.true, some), (s.requires.pool_value, listed))
+    (omega (arith, s.decreases, s.if-parts-eq0.true, more), (s.requires.pool_value, listed))
 
 -- no level left
 pub returns-then-levels_left-eq0 : goal.returns-then-levels_left-eq0
@@ -45,8 +44,8 @@ returns-then-levels_left-eq0 t c =
     ∙ measured-none (split) a.room)
 
 -- before the first part
-pub loop-i-init : goal.loop-i-init
-loop-i-init t c = measuring-start
+pub loop-number-init : goal.loop-number-init
+loop-number-init t c = measuring-start
 
 -- a whole part, and no room
 pub returns-then-total-room : goal.returns-then-total-room
@@ -58,20 +57,20 @@ returns-then-total-room t c =
     let parts_decide : let s = c in measured ((mapping_of ((table c.args.entries.now c.args.pool.now)))) s.args.levels_left s.args.room s.args.c.0 ≡ measured_parts ((mapping_of ((table c.args.entries.now c.args.pool.now)))) (s.args.levels_left - 1) s.args.room s.args.parts.now =
     let s = c in
     measured-parts (split) s.args.levels_left s.args.room (level) in
-    let stop : (let s = c in measured ((mapping_of ((table c.args.entries.now c.args.pool.now)))) (s.args.levels_left - 1) ((c.args.room - c.loop-i.total)) ((get_or c.args.parts.now c.loop-i.i 0))) ≡ none → let s = c in none ≡ measured ((mapping_of ((table c.args.entries.now c.args.pool.now)))) s.args.levels_left s.args.room s.args.c.0 =
-    λ too_much. measuring-stop c.loop-i.invariant ((c.loop-i-test.true)) too_much ∙ sym (parts_decide) in
-    let whole : (let s = c in measured ((mapping_of ((table c.args.entries.now c.args.pool.now)))) (s.args.levels_left - 1) ((c.args.room - c.loop-i.total)) ((get_or c.args.parts.now c.loop-i.i 0))) ≡ when (leb 1 ((c.args.room - c.loop-i.total))) 1 =
+    let stop : (let s = c in measured ((mapping_of ((table c.args.entries.now c.args.pool.now)))) (s.args.levels_left - 1) ((c.args.room - c.loop-number.total)) ((get_or c.args.parts.now c.loop-number.number-index 0))) ≡ None → let s = c in None ≡ measured ((mapping_of ((table c.args.entries.now c.args.pool.now)))) s.args.levels_left s.args.room s.args.c.0 =
+    λ too_much. measuring-stop c.loop-number.invariant ((c.loop-number-test.true)) too_much ∙ sym (parts_decide) in
+    let whole : (let s = c in measured ((mapping_of ((table c.args.entries.now c.args.pool.now)))) (s.args.levels_left - 1) ((c.args.room - c.loop-number.total)) ((get_or c.args.parts.now c.loop-number.number-index 0))) ≡ when (leb 1 ((c.args.room - c.loop-number.total))) 1 =
     let looked = c in
     let s = looked in
     let stays = sym looked.decomposes.ensures ∙ c.if-not-decomposes.true in
-    measured-whole ((mapping_of ((table c.args.entries.now c.args.pool.now)))) (s.args.levels_left - 1) ((c.args.room - c.loop-i.total)) ((get_or c.args.parts.now c.loop-i.i 0))
-    (listed-none ((table c.args.entries.now c.args.pool.now)) ((get_or c.args.parts.now c.loop-i.i 0)) _ looked.entry_parts-inner.ensures stays) in
+    measured-whole ((mapping_of ((table c.args.entries.now c.args.pool.now)))) (s.args.levels_left - 1) ((c.args.room - c.loop-number.total)) ((get_or c.args.parts.now c.loop-number.number-index 0))
+    (listed-none ((table c.args.entries.now c.args.pool.now)) ((get_or c.args.parts.now c.loop-number.number-index 0)) _ looked.entry_parts-inner.ensures stays) in
     let looked = c in
-    stop (whole ∙ ap (λ b. when b 1) (lt-leb 1 ((c.args.room - c.loop-i.total)) (omega (arith, c.if-total-room.true))))
+    stop (whole ∙ ap (λ b. when b 1) (lt-leb 1 ((c.args.room - c.loop-number.total)) (omega (arith, c.if-total-room.true))))
 
 -- one level down, with what the entries say of the part
-pub measure-measurement-requires : goal.measure-measurement-requires
-measure-measurement-requires t c =
+pub measure-requires-else-not-decomposes : goal.measure-requires-else-not-decomposes
+measure-requires-else-not-decomposes t c =
     let level : 1 ≤ c.args.levels_left =
     omega (arith, c.if-levels_left-eq0.false) in
     let split : let s = c in Split ((mapping_of ((table c.args.entries.now c.args.pool.now)))) s.args.c.0 s.args.parts.now =
@@ -80,12 +79,12 @@ measure-measurement-requires t c =
     let before = looked in
     let s = looked in
     let splits = sym looked.decomposes.ensures ∙ c.if-not-decomposes.false in
-    let listed = listed-some ((table c.args.entries.now c.args.pool.now)) ((get_or c.args.parts.now c.loop-i.i 0)) _ s.requires.pool_value looked.entry_parts-inner.ensures splits in
+    let listed = listed-some ((table c.args.entries.now c.args.pool.now)) ((get_or c.args.parts.now c.loop-number.number-index 0)) _ s.requires.pool_value looked.entry_parts-inner.ensures splits in
     (omega (arith, level, s.decreases, (split).some), (s.requires.pool_value, listed))
 
 -- a part that is too much
-pub returns-in-TooMuch : goal.returns-in-TooMuch
-returns-in-TooMuch t c =
+pub returns-in_err-total : goal.returns-in_err-total
+returns-in_err-total t c =
     let level : 1 ≤ c.args.levels_left =
     omega (arith, c.if-levels_left-eq0.false) in
     let split : let s = c in Split ((mapping_of ((table c.args.entries.now c.args.pool.now)))) s.args.c.0 s.args.parts.now =
@@ -93,29 +92,29 @@ returns-in-TooMuch t c =
     let parts_decide : let s = c in measured ((mapping_of ((table c.args.entries.now c.args.pool.now)))) s.args.levels_left s.args.room s.args.c.0 ≡ measured_parts ((mapping_of ((table c.args.entries.now c.args.pool.now)))) (s.args.levels_left - 1) s.args.room s.args.parts.now =
     let s = c in
     measured-parts (split) s.args.levels_left s.args.room (level) in
-    let stop : (let s = c in measured ((mapping_of ((table c.args.entries.now c.args.pool.now)))) (s.args.levels_left - 1) ((c.args.room - c.loop-i.total)) ((get_or c.args.parts.now c.loop-i.i 0))) ≡ none → let s = c in none ≡ measured ((mapping_of ((table c.args.entries.now c.args.pool.now)))) s.args.levels_left s.args.room s.args.c.0 =
-    λ too_much. measuring-stop c.loop-i.invariant ((c.loop-i-test.true)) too_much ∙ sym (parts_decide) in
+    let stop : (let s = c in measured ((mapping_of ((table c.args.entries.now c.args.pool.now)))) (s.args.levels_left - 1) ((c.args.room - c.loop-number.total)) ((get_or c.args.parts.now c.loop-number.number-index 0))) ≡ None → let s = c in None ≡ measured ((mapping_of ((table c.args.entries.now c.args.pool.now)))) s.args.levels_left s.args.room s.args.c.0 =
+    λ too_much. measuring-stop c.loop-number.invariant ((c.loop-number-test.true)) too_much ∙ sym (parts_decide) in
     let called = c in
-    stop (sym called.measure-measurement.ensures ∙ ap measured_size c.in-TooMuch.is)
+    rw c.from_residual.ensures (stop (sym called.measure-else-not-decomposes.ensures ∙ c.in_err-total.was))
 
 -- one part more, either way
-pub loop-i-preserved : goal.loop-i-preserved
-loop-i-preserved t c =
-    let more : (k : ℕ) → (let s = c in measured ((mapping_of ((table c.args.entries.now c.args.pool.now)))) (s.args.levels_left - 1) ((c.args.room - c.loop-i.total)) ((get_or c.args.parts.now c.loop-i.i 0))) ≡ some k → let l = c in let s = c in Measuring ((mapping_of ((table c.args.entries.now c.args.pool.now)))) (s.args.levels_left - 1) s.args.parts.now s.args.room (l.loop-i.total + k) (l.loop-i.i + 1) =
-    λ k fits. measuring-more c.loop-i.invariant ((c.loop-i-test.true)) fits in
+pub loop-number-preserved : goal.loop-number-preserved
+loop-number-preserved t c =
+    let more : (k : ℕ) → (let s = c in measured ((mapping_of ((table c.args.entries.now c.args.pool.now)))) (s.args.levels_left - 1) ((c.args.room - c.loop-number.total)) ((get_or c.args.parts.now c.loop-number.number-index 0))) ≡ Some k → let l = c in let s = c in Measuring ((mapping_of ((table c.args.entries.now c.args.pool.now)))) (s.args.levels_left - 1) s.args.parts.now s.args.room (l.loop-number.total + k) (l.loop-number.number-index + 1) =
+    λ k fits. measuring-more c.loop-number.invariant ((c.loop-number-test.true)) fits in
     elim c.if-not-decomposes.branch [
       | then-not-decomposes+else-total-room w ↦
           rw w.total-is
           (more 1
           (measured-whole (mapping_of (table c.args.entries.now c.args.pool.now)) (c.args.levels_left - 1)
-          (c.args.room - c.loop-i.total)
-          (get_or c.args.parts.now c.loop-i.i 0)
-          (listed-none (table c.args.entries.now c.args.pool.now) (get_or c.args.parts.now c.loop-i.i 0) _
+          (c.args.room - c.loop-number.total)
+          (get_or c.args.parts.now c.loop-number.number-index 0)
+          (listed-none (table c.args.entries.now c.args.pool.now) (get_or c.args.parts.now c.loop-number.number-index 0) _
           c.entry_parts-inner.ensures (sym c.decomposes.ensures ∙ w.if-not-decomposes.true))
           ∙ ap (λ b. when b 1)
-          (le-leb 1 (c.args.room - c.loop-i.total) (omega (arith, w.if-total-room.false, c.loop-i.invariant.fits)))))
-      | else-not-decomposes+in-Fits w ↦
-          rw w.total-is (more _ (sym w.measure-measurement.ensures ∙ ap measured_size w.in-Fits.is))
+          (le-leb 1 (c.args.room - c.loop-number.total) (omega (arith, w.if-total-room.false, c.loop-number.invariant.fits)))))
+      | else-not-decomposes+in_ok-total w ↦
+          rw w.total-is (more _ (sym w.measure-else-not-decomposes.ensures ∙ w.in_ok-total.was))
     ]
 
 -- every part was measured
@@ -129,4 +128,4 @@ returns t c =
     let s = c in
     measured-parts (split) s.args.levels_left s.args.room (level) in
     let l = c in
-    measuring-done l.loop-i.invariant c.loop-i-test.false ∙ sym (parts_decide)
+    measuring-done l.loop-number.invariant c.loop-number-test.false ∙ sym (parts_decide)

@@ -8,11 +8,8 @@ use Rattle.table.specs.Table.{table, mapping_of}
 use Rattle.decompose.proofs.Measuring.{Measuring}
 use Rattle.decompose.proofs.depth.+measure.Given as goal
 
-abbrev pub invariant-loop-i : goal.invariant-loop-i
-invariant-loop-i l = Measuring (mapping_of (table l.entries l.pool)) (l.levels_left - 1) l.parts l.room l.total l.i
-
-abbrev pub decreases-loop-i : goal.decreases-loop-i
-decreases-loop-i l = length l.parts - l.i
+abbrev pub invariant-loop-number : goal.invariant-loop-number
+invariant-loop-number l = Measuring (mapping_of (table l.entries l.pool)) (l.levels_left - 1) l.parts l.room l.total l.number-index
 
 -- the recursion's measure: twice the levels left, and one where there are no parts
 abbrev pub decreases-measure : goal.decreases-measure

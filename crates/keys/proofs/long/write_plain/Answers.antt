@@ -1,11 +1,9 @@
 -- `keys::long::write_plain` meets its contract. The loop's invariant: over every table of which the row tells the text was walked up
--- to `i` (`Walking`), and the buffer keeps its length. The measure is what is left of the text.
--- Assumes nothing.
+-- to `i` (`Walking`), and the buffer keeps its length. Assumes nothing.
 use mathlib.Core.Path.{◌≡◌, sym, ap, ◌∙◌, subst}
-use mathlib.Core.Bool.{true}
 use mathlib.Core.List.{[], ◌∷◌}
-use mathlib.Core.Option.{some}
-use Prim.Native.Nat.{ℕ, ◌+◌, ◌-◌, ◌<◌}
+use Rattle.std.specs.Prelude.{Some}
+use Prim.Native.Nat.{ℕ, ◌+◌, ◌<◌}
 use native.Mathlib.Omega.{arith}
 use lib.ListN.{drop, get_or, set, length-set}
 use lib.Seq.{drop-cons}
@@ -27,17 +25,16 @@ loop-i-preserved c =
           let here = c.loop-i-test.true in
           let plain = told.plain ((get_or c.args.text.now c.loop-i.i 0)) told-octet.0 in
           let below : get_or l.args.row.now ((get_or c.args.text.now c.loop-i.i 0)) 0 < 0x80 = omega (arith, told-octet.1, c.if-octet-ge-ASCII_END.false) in
-          let cut = drop-cons text i 0 (omega (arith, here, l.lesser-most.ensures)) in
-          let read : decode (drop i text) ≡ some (character ((get_or c.args.text.now c.loop-i.i 0)) 1) =
+          let cut = drop-cons text i 0 (omega (arith, here)) in
+          let read : decode (drop i text) ≡ Some (character ((get_or c.args.text.now c.loop-i.i 0)) 1) =
           ap decode cut ∙ decode-one ((get_or c.args.text.now c.loop-i.i 0)) _ (told.ascii ((get_or c.args.text.now c.loop-i.i 0)) told-octet.0 below) in
-          let walked = walking-plain (l.loop-i.invariant.2.walked m told accepted valid) accepted ((get_or c.args.text.now c.loop-i.i 0)) c.row_octet-octet.result read
-          (omega (arith, here, l.lesser-most.ensures))
+          let walked = walking-plain (l.loop-i.invariant.1.walked m told accepted valid) accepted ((get_or c.args.text.now c.loop-i.i 0)) c.row_octet-octet.result read
+          (omega (arith, here))
           (plain.single below ∙ ap (λ (o : ℕ). o ∷ []) (sym told-octet.1)) (plain.asked below) in
           subst (λ k. Walking m text l.args.key.now (i + 1) (i + 1) k (set l.loop-i.key i c.row_octet-octet.result))
           (omega arith) walked;
     } in
     let l = c in (
-      omega (arith, c.loop-i-test.true),
-      length-set l.loop-i.key l.loop-i.i c.row_octet-octet.result ∙ l.loop-i.invariant.1,
+      length-set l.loop-i.key l.loop-i.i c.row_octet-octet.result ∙ l.loop-i.invariant.0,
       more,
     )

@@ -2,7 +2,6 @@
 -- characters up to a place after it.
 -- Assumes nothing.
 use mathlib.Core.Path.{◌≡◌}
-use mathlib.Core.Bool.{true}
 use Prim.Native.Nat.{◌*◌}
 use native.Mathlib.Omega.{arith}
 use Rattle.table.specs.Table.{table, mapping_of}

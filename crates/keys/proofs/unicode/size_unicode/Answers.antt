@@ -3,9 +3,8 @@
 -- is left of the text.
 -- Assumes nothing.
 use mathlib.Core.Path.{◌≡◌, sym, ◌∙◌}
-use mathlib.Core.Bool.{true}
-use mathlib.Core.Option.{some}
-use Prim.Native.Nat.{◌+◌, ◌-◌, ◌*◌, ◌≤◌}
+use Rattle.std.specs.Prelude.{Some}
+use Prim.Native.Nat.{◌+◌, ◌*◌, ◌≤◌}
 use native.Mathlib.Omega.{arith}
 use lib.ListN.{drop}
 use Rattle.terms.specs.Refusals.{text_most}
@@ -28,7 +27,7 @@ read_valid-character-requires c =
 -- the table is accepted, and a decoded character is scalar
 pub size_expansion-sized-requires : goal.size_expansion-sized-requires
 size_expansion-sized-requires c =
-    let decoded : decode (drop c.loop-at.at.0 ((c.args.text.now))) ≡ some ((character_of c.read_valid-character.result)) =
+    let decoded : decode (drop c.loop-at.at.0 ((c.args.text.now))) ≡ Some ((character_of c.read_valid-character.result)) =
     sym c.read_valid-character.ensures in
     let l = c in
     record { usable = l.requires.usable; c_value = utf8-decodes.scalars (drop l.loop-at.at.0 ((c.args.text.now))) ((character_of c.read_valid-character.result)) (decoded) }
@@ -36,7 +35,7 @@ size_expansion-sized-requires c =
 -- few octets of text, of key, and few lookups
 pub overflow_add-at : goal.overflow_add-at
 overflow_add-at c =
-    let decoded : decode (drop c.loop-at.at.0 ((c.args.text.now))) ≡ some ((character_of c.read_valid-character.result)) =
+    let decoded : decode (drop c.loop-at.at.0 ((c.args.text.now))) ≡ Some ((character_of c.read_valid-character.result)) =
     sym c.read_valid-character.ensures in
     let more : let r = c in let l = r in Sizing decode ((mapping_of (table c.args.entries.now c.args.pool.now))) ((c.args.text.now)) (l.loop-at.at.0 + ((character_of c.read_valid-character.result)).width) (l.loop-at.end.0 + c.size_expansion-sized.result.octets) (l.loop-at.lookups + c.size_expansion-sized.result.asks) =
     let r = c in
@@ -51,7 +50,7 @@ overflow_add-at c =
 
 pub overflow_add-end : goal.overflow_add-end
 overflow_add-end c =
-    let decoded : decode (drop c.loop-at.at.0 ((c.args.text.now))) ≡ some ((character_of c.read_valid-character.result)) =
+    let decoded : decode (drop c.loop-at.at.0 ((c.args.text.now))) ≡ Some ((character_of c.read_valid-character.result)) =
     sym c.read_valid-character.ensures in
     let more : let r = c in let l = r in Sizing decode ((mapping_of (table c.args.entries.now c.args.pool.now))) ((c.args.text.now)) (l.loop-at.at.0 + ((character_of c.read_valid-character.result)).width) (l.loop-at.end.0 + c.size_expansion-sized.result.octets) (l.loop-at.lookups + c.size_expansion-sized.result.asks) =
     let r = c in
@@ -66,7 +65,7 @@ overflow_add-end c =
 
 pub overflow_add-lookups : goal.overflow_add-lookups
 overflow_add-lookups c =
-    let decoded : decode (drop c.loop-at.at.0 ((c.args.text.now))) ≡ some ((character_of c.read_valid-character.result)) =
+    let decoded : decode (drop c.loop-at.at.0 ((c.args.text.now))) ≡ Some ((character_of c.read_valid-character.result)) =
     sym c.read_valid-character.ensures in
     let more : let r = c in let l = r in Sizing decode ((mapping_of (table c.args.entries.now c.args.pool.now))) ((c.args.text.now)) (l.loop-at.at.0 + ((character_of c.read_valid-character.result)).width) (l.loop-at.end.0 + c.size_expansion-sized.result.octets) (l.loop-at.lookups + c.size_expansion-sized.result.asks) =
     let r = c in
@@ -82,7 +81,7 @@ overflow_add-lookups c =
 -- an octet or more fewer
 pub loop-at-smaller : goal.loop-at-smaller
 loop-at-smaller c =
-    let decoded : decode (drop c.loop-at.at.0 ((c.args.text.now))) ≡ some ((character_of c.read_valid-character.result)) =
+    let decoded : decode (drop c.loop-at.at.0 ((c.args.text.now))) ≡ Some ((character_of c.read_valid-character.result)) =
     sym c.read_valid-character.ensures in
     let r = c in
     let l = r in
@@ -91,7 +90,7 @@ loop-at-smaller c =
 -- one character more
 pub loop-at-preserved : goal.loop-at-preserved
 loop-at-preserved c =
-    let decoded : decode (drop c.loop-at.at.0 ((c.args.text.now))) ≡ some ((character_of c.read_valid-character.result)) =
+    let decoded : decode (drop c.loop-at.at.0 ((c.args.text.now))) ≡ Some ((character_of c.read_valid-character.result)) =
     sym c.read_valid-character.ensures in
     let more : let r = c in let l = r in Sizing decode ((mapping_of (table c.args.entries.now c.args.pool.now))) ((c.args.text.now)) (l.loop-at.at.0 + ((character_of c.read_valid-character.result)).width) (l.loop-at.end.0 + c.size_expansion-sized.result.octets) (l.loop-at.lookups + c.size_expansion-sized.result.asks) =
     let r = c in

@@ -4,8 +4,8 @@
 use mathlib.Core.Path.{◌≡◌, sym}
 use mathlib.Core.Bool.{true}
 use mathlib.Core.List.{◌++◌}
-use mathlib.Core.Option.{some}
-use Prim.Native.Nat.{ℕ, ◌+◌, ◌-◌, ◌≤◌}
+use Rattle.std.specs.Prelude.{Some}
+use Prim.Native.Nat.{ℕ, ◌+◌, ◌≤◌}
 use native.Mathlib.Omega.{arith}
 use lib.ListN.{length, take, drop, length-drop}
 use Rattle.terms.proofs.Parts.{take-drop, put_back}
@@ -32,7 +32,7 @@ read_valid-character-requires c =
 -- the table is accepted, a decoded character is scalar, and there is room in the part that is lent
 pub write_expansion-written-requires : goal.write_expansion-written-requires
 write_expansion-written-requires c =
-    let decoded : decode (drop c.loop-at.at.0 ((c.args.text.now))) ≡ some ((character_of c.read_valid-character.result)) =
+    let decoded : decode (drop c.loop-at.at.0 ((c.args.text.now))) ≡ Some ((character_of c.read_valid-character.result)) =
     sym c.read_valid-character.ensures in
     let accepted : (x : ℕ) → unfolds ((mapping_of (table c.args.entries.now c.args.pool.now))) x ≡ true =
     accepted-all (table c.args.entries.now c.args.pool.now) c.requires.usable.accepted in
@@ -54,7 +54,7 @@ write_expansion-written-requires c =
 -- past the character
 pub overflow_add-at : goal.overflow_add-at
 overflow_add-at c =
-    let decoded : decode (drop c.loop-at.at.0 ((c.args.text.now))) ≡ some ((character_of c.read_valid-character.result)) =
+    let decoded : decode (drop c.loop-at.at.0 ((c.args.text.now))) ≡ Some ((character_of c.read_valid-character.result)) =
     sym c.read_valid-character.ensures in
     let fits : (1 ≤ ((character_of c.read_valid-character.result)).width) × (c.loop-at.at.0 + ((character_of c.read_valid-character.result)).width ≤ length ((c.args.text.now))) =
     let l = c in
@@ -67,7 +67,7 @@ pub overflow_add-lookups : goal.overflow_add-lookups
 overflow_add-lookups c =
     let accepted : (x : ℕ) → unfolds ((mapping_of (table c.args.entries.now c.args.pool.now))) x ≡ true =
     accepted-all (table c.args.entries.now c.args.pool.now) c.requires.usable.accepted in
-    let decoded : decode (drop c.loop-at.at.0 ((c.args.text.now))) ≡ some ((character_of c.read_valid-character.result)) =
+    let decoded : decode (drop c.loop-at.at.0 ((c.args.text.now))) ≡ Some ((character_of c.read_valid-character.result)) =
     sym c.read_valid-character.ensures in
     let room : let l = c in l.loop-at.end.0 + length (expanded ((mapping_of (table c.args.entries.now c.args.pool.now))) ((character_of c.read_valid-character.result)).code) ≤ length l.args.key.now =
     let l = c in
@@ -85,7 +85,7 @@ overflow_add-lookups c =
 -- an octet or more fewer
 pub loop-at-smaller : goal.loop-at-smaller
 loop-at-smaller c =
-    let decoded : decode (drop c.loop-at.at.0 ((c.args.text.now))) ≡ some ((character_of c.read_valid-character.result)) =
+    let decoded : decode (drop c.loop-at.at.0 ((c.args.text.now))) ≡ Some ((character_of c.read_valid-character.result)) =
     sym c.read_valid-character.ensures in
     let fits : (1 ≤ ((character_of c.read_valid-character.result)).width) × (c.loop-at.at.0 + ((character_of c.read_valid-character.result)).width ≤ length ((c.args.text.now))) =
     let l = c in
@@ -97,7 +97,7 @@ pub loop-at-preserved : goal.loop-at-preserved
 loop-at-preserved c =
     let accepted : (x : ℕ) → unfolds ((mapping_of (table c.args.entries.now c.args.pool.now))) x ≡ true =
     accepted-all (table c.args.entries.now c.args.pool.now) c.requires.usable.accepted in
-    let decoded : decode (drop c.loop-at.at.0 ((c.args.text.now))) ≡ some ((character_of c.read_valid-character.result)) =
+    let decoded : decode (drop c.loop-at.at.0 ((c.args.text.now))) ≡ Some ((character_of c.read_valid-character.result)) =
     sym c.read_valid-character.ensures in
     let room : let l = c in l.loop-at.end.0 + length (expanded ((mapping_of (table c.args.entries.now c.args.pool.now))) ((character_of c.read_valid-character.result)).code) ≤ length l.args.key.now =
     let l = c in

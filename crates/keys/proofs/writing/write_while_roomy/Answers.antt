@@ -2,7 +2,7 @@
 -- measure is what is left of the text.
 -- Assumes nothing.
 use mathlib.Core.List.{◌++◌}
-use Prim.Native.Nat.{◌+◌, ◌-◌}
+use Prim.Native.Nat.{◌+◌}
 use lib.ListN.{take}
 use Rattle.terms.proofs.Parts.{take-drop, put_back}
 use Rattle.table.specs.Table.{table, mapping_of}

@@ -1,14 +1,9 @@
--- `many::checks::long_text` meets its contract. The loop's invariant: no text below `i` is over the limit. The measure is how many
--- are left. Assumes nothing.
+-- `many::checks::long_text` meets its contract. The loop's invariant: no text below `i` is over the limit. Assumes nothing.
 use mathlib.Core.Path.{◌≡◌}
-use Prim.Native.Nat.{ℕ, ◌≤◌, ◌<◌, ◌-◌}
+use Prim.Native.Nat.{ℕ, ◌<◌}
 use mathlib.Core.Bool.{false}
-use lib.ListN.{length}
 use Rattle.many.specs.Many.{long_text}
 use Rattle.many.proofs.checks.long_text.Given as goal
 
 abbrev pub invariant-loop-i : goal.invariant-loop-i
-invariant-loop-i l = (l.i ≤ length l.ends) × ((k : ℕ) → k < l.i → long_text l.ends k ≡ false)
-
-abbrev pub decreases-loop-i : goal.decreases-loop-i
-decreases-loop-i l = length l.ends - l.i
+invariant-loop-i l = (k : ℕ) → k < l.i → long_text l.ends k ≡ false

@@ -1,10 +1,11 @@
--- `many::filling::put_many` meets its contract. The invariant: the texts before `i` are done (`Filling`); what falls is how many
--- are left.
+-- `many::filling::put_many` meets its contract. The invariant: the texts before `i` are done (`Filling`).
 -- Assumes nothing.
 use mathlib.Core.Path.{◌≡◌, ap, ◌∙◌}
-use Prim.Native.Nat.{ℕ, ◌+◌, ◌-◌, ◌≤◌}
+use Prim.Native.Nat.{ℕ, ◌+◌, ◌≤◌}
 use native.Mathlib.Omega.{arith}
+use mathlib.Core.Bool.{Bool, true, false}
 use mathlib.Core.List.{List}
+use Rattle.std.specs.Int.{from_bool}
 use lib.ListN.{length, drop, length-drop}
 use Rattle.terms.proofs.Parts.{take-drop, put_back}
 use Rattle.table.specs.Table.{table, mapping_of}
@@ -17,6 +18,11 @@ use Rattle.storing.proofs.Keyed.{key-put}
 use Rattle.many.proofs.Filled.{filling-room, filling-more, filling-done}
 use Rattle.many.proofs.Walking.{string-short}
 use Rattle.many.proofs.filling.put_many.Goals as goal
+
+-- 1 for true, 0 for false
+one-of : (b : Bool) → {n : ℕ} → n ≡ from_bool b → n ≡ truth b
+one-of true e = e
+one-of false e = e
 
 pub put_key-summary-requires : goal.put_key-summary-requires
 put_key-summary-requires c =
@@ -64,8 +70,8 @@ loop-i-preserved c =
     p.put_key-summary.result.key_length
     p.put_key-summary.new.out
     (puts)
-    c.one_if.result
-    (c.one_if.ensures ∙ valid))
+    c.from.result
+    (one-of c.put_key-summary.result.valid c.from.ensures ∙ valid))
 
 pub returns : goal.returns
 returns c =
@@ -74,4 +80,4 @@ returns c =
     let l = c in
     let s = l in
     filling-done ((key_of c.args.collation ((mapping_of (table c.args.entries.now c.args.pool.now))))) (value) s.args.octets.now s.args.ends.now l.loop-i.invariant s.requires.ends_in_bounds
-    s.requires.ends_in_bounds_2 s.requires.ends_in_bounds_3 c.loop-i-test.false
+    s.requires.ends_in_bounds_2 s.requires.ends_in_bounds_3 (omega arith)

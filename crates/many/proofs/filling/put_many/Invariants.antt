@@ -1,8 +1,5 @@
--- `many::filling::put_many` meets its contract. The invariant: the texts before `i` are done (`Filling`); what falls is how many
--- are left.
+-- `many::filling::put_many` meets its contract. The invariant: the texts before `i` are done (`Filling`).
 -- Assumes nothing.
-use Prim.Native.Nat.{◌-◌}
-use lib.ListN.{length}
 use Rattle.table.specs.Table.{table, mapping_of}
 use Rattle.keys.specs.Keys.{prepared, key_of}
 use Rattle.keys.specs.Summaries.{truth}
@@ -14,6 +11,3 @@ invariant-loop-i l =
     (let m = mapping_of (table l.entries l.pool) in
     Filling (key_of l.collation m) (λ t. truth (prepared l.collation m t).valid) l.octets l.ends l.initial.store l.initial.key_ends l.initial.valid l.i l.end l.store
     l.key_ends l.valid)
-
-abbrev pub decreases-loop-i : goal.decreases-loop-i
-decreases-loop-i l = length l.ends - l.i

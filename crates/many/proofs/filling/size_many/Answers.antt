@@ -1,8 +1,7 @@
--- `many::filling::size_many` meets its contract. The invariant: with the keys of the texts from `i` on, all are counted; what
--- falls is how many are left.
+-- `many::filling::size_many` meets its contract. The invariant: with the keys of the texts from `i` on, all are counted.
 -- Assumes nothing.
 use mathlib.Core.Path.{◌≡◌, ap, ◌∙◌}
-use Prim.Native.Nat.{ℕ, ◌+◌, ◌-◌}
+use Prim.Native.Nat.{ℕ, ◌+◌}
 use native.Mathlib.Omega.{arith}
 use mathlib.Core.List.{List, map}
 use lib.ListN.{length, drop}
@@ -45,7 +44,7 @@ overflow_add-size c =
     omega (
       arith,
       sized,
-      k.loop-i.invariant.1,
+      k.loop-i.invariant,
       long,
       keys-few s.args.octets.now s.args.ends.now s.requires.texts ((key_of c.args.collation (mapping_of (table c.args.entries.now c.args.pool.now))))
           (λ t. key-within s.args.collation (table s.args.entries.now s.args.pool.now) t
@@ -70,11 +69,11 @@ loop-i-preserved c =
     sized-length c.size_key-summary.result (prepared s.args.collation (mapping_of (table s.args.entries.now
     s.args.pool.now)) ((let a = c.args in key_in a.octets.now a.ends.now c.loop-i.i))) (rw k.key_at-text.ensures at c.size_key-summary.ensures) in
     let k = c in
-    (omega (arith, k.loop-i-test.true), omega (arith, sized, k.loop-i.invariant.1, long))
+    omega (arith, sized, k.loop-i.invariant, long)
 
 pub returns : goal.returns
 unfolding each
 returns c =
     let s = c in
-    let none_left = keys-done s.args.octets.now s.args.ends.now ((key_of c.args.collation (mapping_of (table c.args.entries.now c.args.pool.now)))) c.loop-i.i c.loop-i-test.false in
-    omega (arith, c.loop-i.invariant.1, ap (λ (ks : List (List ℕ)). length (joined ks)) none_left)
+    let none_left = keys-done s.args.octets.now s.args.ends.now ((key_of c.args.collation (mapping_of (table c.args.entries.now c.args.pool.now)))) c.loop-i.i (omega arith) in
+    omega (arith, c.loop-i.invariant, ap (λ (ks : List (List ℕ)). length (joined ks)) none_left)

@@ -1,8 +1,7 @@
--- `matching::rows::count_from_one` meets its contract. The invariant: the numbers before `i` are one more; what falls is how
--- many are left.
+-- `matching::rows::count_from_one` meets its contract. The invariant: the numbers before `i` are one more.
 -- Assumes nothing.
 use mathlib.Core.Path.{◌≡◌, sym, ap, ◌∙◌}
-use Prim.Native.Nat.{ℕ, suc, ◌+◌, ◌-◌, ◌<◌}
+use Prim.Native.Nat.{ℕ, suc, ◌+◌, ◌<◌}
 use native.Mathlib.Omega.{arith}
 use mathlib.Core.List.{map}
 use lib.Dec.{ltb}

@@ -1,10 +1,9 @@
--- `matching::rows::mark_repeats` meets its contract. The invariant: the places before `i` are marked; what falls is how many
--- are left.
+-- `matching::rows::mark_repeats` meets its contract. The invariant: the places before `i` are marked.
 -- Assumes nothing.
-use mathlib.Core.Path.{◌≡◌, sym, ap, ◌∙◌}
-use Prim.Native.Nat.{◌-◌}
+use mathlib.Core.Path.{◌≡◌, refl, sym, ap, ◌∙◌}
 use native.Mathlib.Omega.{arith}
-use mathlib.Core.Bool.{Bool, cond}
+use mathlib.Core.Bool.{Bool, true, false, cond}
+use Rattle.std.specs.Int.{from_bool}
 use mathlib.Core.List.{map}
 use lib.ListN.{length, get_or, length-map}
 use Rattle.sorting.specs.KeyOrder.{key_in}
@@ -12,6 +11,11 @@ use Rattle.terms.proofs.Copying.{copying-more}
 use Rattle.matching.specs.Matching.{repeated}
 use Rattle.matching.proofs.Repeats.{copying-whole, length-repeated, repeated-at}
 use Rattle.matching.proofs.rows.mark_repeats.Goals as goal
+
+-- a truth value as a number
+one_if : (t : Bool) → from_bool t ≡ cond t 1 0
+one_if true = refl
+one_if false = refl
 
 pub loop-i-preserved : goal.loop-i-preserved
 loop-i-preserved c =
@@ -23,8 +27,8 @@ loop-i-preserved c =
     let i = l.loop-i.i in
     let here = c.loop-i-test.true in
     let long : length marks ≡ length row = length-repeated (map key row) ∙ length-map row key in
-    let mark : get_or marks i 0 ≡ c.one_if.result =
-    repeated-at key row i here ∙ sym (c.one_if.ensures ∙ ap (λ (t : Bool). cond t 1 0) c.repeats_key.ensures)
+    let mark : get_or marks i 0 ≡ c.from.result =
+    repeated-at key row i here ∙ sym (c.from.ensures ∙ one_if c.repeats_key.result ∙ ap (λ (t : Bool). cond t 1 0) c.repeats_key.ensures)
     in
     rw mark at (copying-more l.loop-i.invariant here (omega arith) (omega (arith, s.requires.repeats_len)))
 

@@ -1,7 +1,5 @@
--- `matching::rows::mark_repeats` meets its contract. The invariant: the places before `i` are marked; what falls is how many
--- are left.
+-- `matching::rows::mark_repeats` meets its contract. The invariant: the places before `i` are marked.
 -- Assumes nothing.
-use Prim.Native.Nat.{◌-◌}
 use mathlib.Core.List.{map}
 use lib.ListN.{length}
 use Rattle.sorting.specs.KeyOrder.{key_in}
@@ -11,6 +9,3 @@ use Rattle.matching.proofs.rows.mark_repeats.Given as goal
 
 abbrev pub invariant-loop-i : goal.invariant-loop-i
 invariant-loop-i l = Copying (repeated (map (key_in l.store l.ends) l.row)) (length l.row) l.initial.repeats l.i l.repeats
-
-abbrev pub decreases-loop-i : goal.decreases-loop-i
-decreases-loop-i l = length l.row - l.i

@@ -1,12 +1,7 @@
--- `occurrence::matches::extend` meets its contract. The loop's invariant: the octets passed match. The measure is what is
--- left of `most`.
+-- `occurrence::matches::extend` meets its contract. The loop's invariant: the octets passed match.
 -- Assumes nothing.
-use Prim.Native.Nat.{◌≤◌, ◌-◌}
 use Rattle.occurrence.specs.Matches.{Matched}
 use Rattle.occurrence.proofs.matches.extend.Given as goal
 
 abbrev pub invariant-loop-k : goal.invariant-loop-k
-invariant-loop-k l = (l.k ≤ l.most) × Matched l.x l.y l.j l.k
-
-abbrev pub decreases-loop-k : goal.decreases-loop-k
-decreases-loop-k l = l.most - l.k
+invariant-loop-k l = Matched l.x l.y l.j l.k

@@ -1,6 +1,5 @@
 -- `occurrence::places::search` meets its contract. The loop's invariant: the needle stands at no place below j, and i octets
 -- are known to match at j. The measure is how many places are left. Assumes nothing.
-use Prim.Native.Nat.{◌-◌}
 use native.Mathlib.Omega.{arith}
 use mathlib.Core.Path.{sym}
 use Rattle.occurrence.proofs.Searching.{matched-shifted, unmatched-none, unmatched-on, occurrence-matched}
@@ -22,7 +21,7 @@ returns-then-i-m c =
     let joined : Reached c.args.needle.now c.args.hay.now c.loop-j.j c.if-i-eq0.j c.loop-j.i =
     let at = c.loop-j.invariant in
     elim c.if-i-eq0.branch [
-      | then-i-eq0 w ↦ reached-skipped w.if-i-eq0.true at.2 w.skip-next.ensures w.j-is
+      | then-i-eq0 w ↦ reached-skipped w.if-i-eq0.true at.2 w.skip.ensures w.j-is
       | else-i-eq0 w ↦ reached-kept at.2 at.3 (omega arith) at.1 w.j-is
     ] in
     let at = joined in
@@ -34,7 +33,7 @@ loop-j-preserved c =
     let joined : Reached c.args.needle.now c.args.hay.now c.loop-j.j c.if-i-eq0.j c.loop-j.i =
     let at = c.loop-j.invariant in
     elim c.if-i-eq0.branch [
-      | then-i-eq0 w ↦ reached-skipped w.if-i-eq0.true at.2 w.skip-next.ensures w.j-is
+      | then-i-eq0 w ↦ reached-skipped w.if-i-eq0.true at.2 w.skip.ensures w.j-is
       | else-i-eq0 w ↦ reached-kept at.2 at.3 (omega arith) at.1 w.j-is
     ] in
     let at_join = c in

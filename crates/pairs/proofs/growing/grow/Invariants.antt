@@ -1,15 +1,7 @@
--- `pairs::growing::grow`: the reader stands within the buffer, and what the state says is used lies within the slices.
-use Rattle.std.proofs.Common.{length}
+-- `pairs::growing::grow`: what the state says is used lies within the slices.
 use Rattle.builder.specs.Builder.{built}
 use Rattle.builder.specs.Promises.{UsedFits}
-use Rattle.pairs.specs.Reading.{Stands}
 use Rattle.pairs.proofs.growing.grow.Given as goal
 
-abbrev pub invariant-loop-s : goal.invariant-loop-s
-invariant-loop-s g l = record {
-  stands : Stands (length l.buffer) l.reader;
-  fits : UsedFits (built l.state l.entries l.pool);
-}
-
-abbrev pub decreases-loop-s : goal.decreases-loop-s
-decreases-loop-s g l = l.reader.left
+abbrev pub invariant-loop : goal.invariant-loop
+invariant-loop g l = UsedFits (built l.state l.entries l.pool)

@@ -16,8 +16,8 @@ returns-then-repeats_key c =
     (sym c.repeats_key.ensures ∙ c.if-repeats_key.true))
     s.requires.tells
 
-pub returns : goal.returns
-returns c =
+pub returns-else-repeats_key : goal.returns-else-repeats_key
+returns-else-repeats_key c =
     let s = c in
     let key = key_in s.args.store.now s.args.ends.now in
     tells-same

@@ -1,13 +1,14 @@
 -- `prepare::checks::check_table_under` meets its contract: where the collation reads the table, the answer is that of
 -- `check_table`, and then that of the pages' lengths.
 -- Assumes nothing.
+use Rattle.std.specs.Result.{result_err}
+use Rattle.std.specs.Prelude.{None}
 use mathlib.Core.Path.{◌≡◌, sym, ap, ◌∙◌}
 use mathlib.Core.Bool.{false}
-use mathlib.Core.Option.{none}
 use lib.Dec.{ltb}
 use lib.ListN.{length}
 use borrow.Author.Tests.{ltb-false}
-use Rattle.terms.specs.Refusals.{pages_most, check_refusal}
+use Rattle.terms.specs.Refusals.{pages_most}
 use Rattle.terms.proofs.Checks.{or_left, or_right, check_refusal-answer}
 use Rattle.table.specs.Table.{table}
 use Rattle.table.proofs.Form.{formed-ascending}
@@ -18,9 +19,9 @@ use Rattle.prepare.proofs.checks.check_table_under.Goals as goal
 
 pub fill_pages-requires : goal.fill_pages-requires
 fill_pages-requires c =
-    let accepted : table_refusal ((table c.args.entries.now c.args.pool.now)) ≡ none =
+    let accepted : table_refusal ((table c.args.entries.now c.args.pool.now)) ≡ None =
     let checked = c.check_table in
-    sym (check_refusal-answer checked.result (table_refusal ((table c.args.entries.now c.args.pool.now))) checked.ensures) ∙ ap check_refusal c.in_default.is in
+    sym (check_refusal-answer checked.result (table_refusal ((table c.args.entries.now c.args.pool.now))) checked.ensures) ∙ ap result_err c.in_ok-check_table.was in
     let long : short_pages ((pages c.args.presence.now c.args.ranks.now)) ≡ false =
     sym c.is_short.ensures ∙ c.if-is_short.false in
     let both = c in

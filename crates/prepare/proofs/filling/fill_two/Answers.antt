@@ -1,8 +1,8 @@
 -- `prepare::filling::fill_two` meets its contract: where both buffers are roomy 8 does not apply, and both keys are filled
 -- in, of two short texts as such; else they are sized first.
 -- Assumes nothing.
+use Rattle.std.specs.Prelude.{None}
 use mathlib.Core.Path.{◌≡◌, sym, ◌∙◌}
-use mathlib.Core.Option.{none}
 use Prim.Native.Nat.{◌≤◌}
 use native.Mathlib.Omega.{arith}
 use lib.ListN.{length}
@@ -47,7 +47,7 @@ fill_short-two-requires c =
 
 pub returns-then-second-lt-LONG_TEXT : goal.returns-then-second-lt-LONG_TEXT
 returns-then-second-lt-LONG_TEXT c =
-    let accepted : let args = c.args in table_under args.collation (table args.entries.now args.pool.now) ≡ none =
+    let accepted : let args = c.args in table_under args.collation (table args.entries.now args.pool.now) ≡ None =
     let s = c in
     usable-accepted s.args.collation (table s.args.entries.now s.args.pool.now)
     (pages s.args.presence.now s.args.ranks.now) s.requires.usable_under in
@@ -92,7 +92,7 @@ fill_unicode-two-requires c =
 
 pub returns-then-is_roomy-2 : goal.returns-then-is_roomy-2
 returns-then-is_roomy-2 c =
-    let accepted : let args = c.args in table_under args.collation (table args.entries.now args.pool.now) ≡ none =
+    let accepted : let args = c.args in table_under args.collation (table args.entries.now args.pool.now) ≡ None =
     let s = c in
     usable-accepted s.args.collation (table s.args.entries.now s.args.pool.now)
     (pages s.args.presence.now s.args.ranks.now) s.requires.usable_under in

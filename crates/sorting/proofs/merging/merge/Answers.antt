@@ -2,7 +2,6 @@
 -- both parts merged, is the whole; what falls is how much is left.
 -- Assumes nothing.
 use mathlib.Core.Path.{sym, ◌∙◌}
-use Prim.Native.Nat.{◌-◌}
 use Rattle.sorting.specs.KeyOrder.{key_in, key_order}
 use Rattle.sorting.proofs.Halves.{merging-left, merging-right, merging-done}
 use Rattle.sorting.proofs.merging.merge.Goals as goal

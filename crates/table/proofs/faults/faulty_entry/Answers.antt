@@ -1,8 +1,7 @@
--- `table::faults::faulty_entry` meets its contract. The loop's invariant: `i` is at most the number of entries, no entry
--- below it is faulty, and `sum` is the sum of their counts, each at most 32. The measure is the number of entries that are
--- left.
+-- `table::faults::faulty_entry` meets its contract. The loop's invariant: no entry below `i` is faulty, and `sum` is the
+-- sum of their counts, each at most 32.
 -- Assumes nothing.
-use Prim.Native.Nat.{ℕ, ◌+◌, ◌≤◌, ◌<◌, ◌-◌}
+use Prim.Native.Nat.{ℕ, ◌+◌, ◌≤◌, ◌<◌}
 use native.Mathlib.Numerals.{add-one}
 use native.Mathlib.Omega.{arith}
 use mathlib.Core.Path.{◌≡◌, refl, sym, ap, ◌∙◌}
@@ -39,39 +38,40 @@ entry_fault-left t i e fails =
 
 -- before the first turn
 pub loop-i-init : goal.loop-i-init
-loop-i-init c = (search rules, below_none _, counts_below-none _, search rules)
+loop-i-init c = (below_none _, counts_below-none _, search rules)
 
 -- a faulty entry
 pub returns-then-is_faulty_entry : goal.returns-then-is_faulty_entry
 returns-then-is_faulty_entry c =
-    let called = c in
-    let l = called in
-    let holds = sym called.is_faulty_entry.ensures ∙ c.if-is_faulty_entry.true in
-    rw (lowest-is (faulty_entry ((let a = c.args in table a.entries.now a.pool.now))) (entry_count ((let a = c.args in table a.entries.now a.pool.now)).entries) l.loop-i.i (omega arith) holds l.loop-i.invariant.1)
+    let t = table c.args.entries.now c.args.pool.now in
+    let holds = sym c.is_faulty_entry.ensures ∙ c.if-is_faulty_entry.true in
+    rw (lowest-is (faulty_entry t) (entry_count t.entries) c.loop-i.i (omega arith) holds c.loop-i.invariant.0)
 
 -- one entry more that is not faulty
 pub loop-i-preserved : goal.loop-i-preserved
 loop-i-preserved c =
-    let passed : let l = c in faulty_entry ((let a = c.args in table a.entries.now a.pool.now)) l.loop-i.i ≡ false =
-    sym c.is_faulty_entry.ensures ∙ c.if-is_faulty_entry.false in
-    let few : let l = c in count_at ((let a = c.args in table a.entries.now a.pool.now)).entries l.loop-i.i ≤ parts_most =
-    let l = c in sound-count ((let a = c.args in table a.entries.now a.pool.now)) l.loop-i.i (passed) in
-    let l = c in
-    let more = counts_below-more ((let a = c.args in table a.entries.now a.pool.now)).entries l.loop-i.i in
-    (search rules, below_more _ _ l.loop-i.invariant.1 (passed), omega arith, omega (arith, few))
+    let t = table c.args.entries.now c.args.pool.now in
+    let passed : faulty_entry t c.loop-i.i ≡ false = sym c.is_faulty_entry.ensures ∙ c.if-is_faulty_entry.false in
+    let few : count_at t.entries c.loop-i.i ≤ parts_most = sound-count t c.loop-i.i passed in
+    let more = counts_below-more t.entries c.loop-i.i in
+    (below_more _ _ c.loop-i.invariant.0 passed, omega arith, omega (arith, few))
 
 -- the pool is longer than all counts
 pub returns-then-sum-pool : goal.returns-then-sum-pool
 returns-then-sum-pool c =
-    let l = c in
-    let i = l.loop-i.i in
-    let longer = lt-ltb (counts_below ((let a = c.args in table a.entries.now a.pool.now)).entries i) (length ((let a = c.args in table a.entries.now a.pool.now)).pool) (omega arith) in
-    sym (entry_fault-left ((let a = c.args in table a.entries.now a.pool.now)) i (omega arith) l.loop-i.invariant.1 ∙ ap (λ b. when b i) longer)
+    let t = table c.args.entries.now c.args.pool.now in
+    let n = c.entry_count-count.result in
+    let end : c.loop-i.i ≡ n = omega arith in
+    let sum = rw end at c.loop-i.invariant.1 in
+    let longer = lt-ltb (counts_below t.entries n) (length t.pool) (omega (arith, sum)) in
+    sym (entry_fault-left t n c.entry_count-count.ensures (rw end at c.loop-i.invariant.0) ∙ ap (λ b. when b n) longer)
 
 -- it is not
-pub returns : goal.returns
-returns c =
-    let l = c in
-    let i = l.loop-i.i in
-    let full = le-ltb (counts_below ((let a = c.args in table a.entries.now a.pool.now)).entries i) (length ((let a = c.args in table a.entries.now a.pool.now)).pool) (omega arith) in
-    sym (entry_fault-left ((let a = c.args in table a.entries.now a.pool.now)) i (omega arith) l.loop-i.invariant.1 ∙ ap (λ b. when b i) full)
+pub returns-else-sum-pool : goal.returns-else-sum-pool
+returns-else-sum-pool c =
+    let t = table c.args.entries.now c.args.pool.now in
+    let n = c.entry_count-count.result in
+    let end : c.loop-i.i ≡ n = omega arith in
+    let sum = rw end at c.loop-i.invariant.1 in
+    let full = le-ltb (counts_below t.entries n) (length t.pool) (omega (arith, sum)) in
+    sym (entry_fault-left t n c.entry_count-count.ensures (rw end at c.loop-i.invariant.0) ∙ ap (λ b. when b n) full)

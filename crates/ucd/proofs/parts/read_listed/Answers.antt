@@ -1,85 +1,105 @@
--- `ucd::parts::read_listed` meets its contract. The loop's invariant: the parts so far stand in the slice, and a walk stands
--- at the next piece. The measure is how many more parts may be.
+-- `ucd::parts::read_listed` meets its contract: std's parts between spaces are the pieces.
 -- Assumes nothing.
-use mathlib.Core.Path.{◌≡◌, sym, ◌∙◌, ap}
-use Prim.Native.Nat.{ℕ, ◌<◌, ◌+◌, ◌-◌}
-use native.Mathlib.Omega.{arith}
-use borrow.Author.Rules.{rules}
-use mathlib.Core.Option.{none, some}
-use lib.ListN.{length, take, drop, length-set}
-use Rattle.terms.specs.Refusals.{parts_most}
-use Rattle.ucd.specs.Fields.{code_point}
-use Rattle.ucd.specs.Promises.{piece_end, number_read}
-use Rattle.ucd.proofs.Cutting.{stands-most}
-use Rattle.ucd.proofs.Listing.{piece_at, lists-none, lists-many, lists-last, lists-more}
+use Rattle.std.proofs.Common.{◌≡◌, sym, ◌∙◌, ap, ◌<◌, length, List, [], ℕ, eqb, get_or, arith, rules, tests}
+use Rattle.std.specs.List.{slice_split}
+use Rattle.std.proofs.lemmas.List.{length-set, length_push, get_or_default}
+use Rattle.std.proofs.lemmas.Iterator.Splits.{YieldsList-from_slice_split}
+use Rattle.std.proofs.lemmas.Iterator.Consumers.{YieldsList-turn, YieldsList-end, YieldsList-at}
+use Rattle.ucd.specs.Fields.{cut, code_point}
+use Rattle.ucd.specs.Promises.{number_read}
+use Rattle.ucd.proofs.Cutting.{cut-split, cut-some}
+use Rattle.ucd.proofs.Listing.{lists-first, lists-none, lists-many, lists-more, lists-all}
 use Rattle.ucd.proofs.parts.read_listed.Goals as goal
 
-pub slice_bounds-read_code_point-end : goal.slice_bounds-read_code_point-end
-slice_bounds-read_code_point-end c = omega (arith, c.piece_end-end.ensures, stands-most c.loop-count.invariant.2.stands)
+-- the piece that std gives is the next one
+record Here (t piece : List ℕ) (count : ℕ) : Type 0 where
+  within : count < length (cut 0x20 t)
+  is : get_or (cut 0x20 t) count [] ≡ piece
 
--- no code point
-pub returns-in_default : goal.returns-in_default
-returns-in_default c =
-    let piece : number_read c.read_code_point-read.result ≡ code_point (piece_at ((c.args.t.now)) c.loop-count.at) =
-    let at = c.loop-count.at in
-    let rest = drop at ((c.args.t.now)) in
-    let end = c.piece_end-end in
-    let width : end.result - at ≡ piece_end 0x20 rest = omega (arith, end.ensures) in
-    c.read_code_point-read.ensures ∙ ap (λ (n : ℕ). code_point (take n rest)) width in
-    let r = c in
-    let l = r.loop-count in
-    let e : code_point (piece_at ((c.args.t.now)) l.at) ≡ none = sym (piece) ∙ ap number_read c.in_default.is in
-    record { read = sym (lists-none l.invariant.2 e); within = search rules }
+here : (t piece : List ℕ) (n count : ℕ)
+    → count ≡ n
+    → (n < length (slice_split (λ o. eqb o 0x20) t)) × (piece ≡ get_or (slice_split (λ o. eqb o 0x20) t) n piece)
+    → Here t piece count
+here t piece n count e h = rw e (record {
+  within = rw (cut-split 0x20 t) h.0;
+  is = rw (cut-split 0x20 t) (get_or_default (slice_split (λ o. eqb o 0x20) t) n [] piece h.0 ∙ sym h.1);
+})
 
--- the last part
-pub returns-then-end-t : goal.returns-then-end-t
-returns-then-end-t c =
-    let room : let l = c in (l.loop-count.count < parts_most) × (l.loop-count.count < length l.loop-count.parts) =
-    let r = c in
-    let l = r in
-    omega (arith, r.loop-count-test.true, l.loop-count.invariant.0, l.requires) in
-    let piece : number_read c.read_code_point-read.result ≡ code_point (piece_at ((c.args.t.now)) c.loop-count.at) =
-    let at = c.loop-count.at in
-    let rest = drop at ((c.args.t.now)) in
-    let end = c.piece_end-end in
-    let width : end.result - at ≡ piece_end 0x20 rest = omega (arith, end.ensures) in
-    c.read_code_point-read.ensures ∙ ap (λ (n : ℕ). code_point (take n rest)) width in
-    let written : let l = c in code_point (piece_at ((c.args.t.now)) l.loop-count.at) ≡ some ((c.in-Value.c.0)) =
-    sym (piece) ∙ ap number_read c.in-Value.is in
-    let d = c in
-    let l = d.loop-count in
-    let end : l.at + piece_end 0x20 (drop l.at ((c.args.t.now))) ≡ length ((c.args.t.now)) =
-    sym d.piece_end-end.ensures ∙ c.if-end-t.true in
-    record {
-      read = lists-last l.invariant.2 ((c.in-Value.c.0)) (room).1 (written) (room).0 end;
-      within = omega (arith, room);
-    }
+pub loop-piece-init : goal.loop-piece-init
+loop-piece-init c = record {
+  room = search rules;
+  most = search rules;
+  read = search rules;
+  lists = lists-first (cut 0x20 c.args.t.now) c.args.parts.now;
+}
+
+-- more pieces than may be
+pub returns-then-count-eq-PARTS_MOST : goal.returns-then-count-eq-PARTS_MOST
+returns-then-count-eq-PARTS_MOST c =
+    let turn =
+    YieldsList-turn
+    (YieldsList-at c.into_iter-piece-iterator.ensures.into_iter_gives
+    (YieldsList-from_slice_split _ (λ o. eqb o 0x20) c.args.t.now c.split-piece-items.ensures.rest
+    c.split-piece-items.ensures.done c.split-piece-items.ensures.closure (λ x r q k. search (rules, tests))))
+    c.loop-piece.yielded _ c.loop-piece.yielded_by _ _ c.in-Some.piece c.in-Some.is c.next.ensures.steps in
+    let next : Here c.args.t.now c.in-Some.piece.now c.loop-piece.count = here _ _ _ _ c.loop-piece.invariant.read turn in
+    record { read = sym (lists-many (cut 0x20 c.args.t.now) (omega arith)); within = search rules }
+
+-- a piece that writes no code point
+pub returns-in_err-parts : goal.returns-in_err-parts
+returns-in_err-parts c =
+    let turn =
+    YieldsList-turn
+    (YieldsList-at c.into_iter-piece-iterator.ensures.into_iter_gives
+    (YieldsList-from_slice_split _ (λ o. eqb o 0x20) c.args.t.now c.split-piece-items.ensures.rest
+    c.split-piece-items.ensures.done c.split-piece-items.ensures.closure (λ x r q k. search (rules, tests))))
+    c.loop-piece.yielded _ c.loop-piece.yielded_by _ _ c.in-Some.piece c.in-Some.is c.next.ensures.steps in
+    let next : Here c.args.t.now c.in-Some.piece.now c.loop-piece.count = here _ _ _ _ c.loop-piece.invariant.read turn in
+    let none = sym c.read_code_point.ensures ∙ ap number_read c.in_err-parts.was in
+    rw c.from_residual.ensures
+    (record {
+      read = sym (lists-none (cut 0x20 c.args.t.now) c.loop-piece.count next.within (ap code_point next.is ∙ none));
+      within = search rules;
+    })
 
 -- one part more
-pub loop-count-preserved : goal.loop-count-preserved
-loop-count-preserved c =
-    let inside : let l = c in l.loop-count.at + piece_end 0x20 (drop l.loop-count.at ((c.args.t.now))) < length ((c.args.t.now)) =
-    let r = c in
-    omega (arith, c.if-end-t.false, r.piece_end-end.ensures, stands-most r.loop-count.invariant.2.stands) in
-    let room : let l = c in (l.loop-count.count < parts_most) × (l.loop-count.count < length l.loop-count.parts) =
-    let r = c in
-    let l = r in
-    omega (arith, r.loop-count-test.true, l.loop-count.invariant.0, l.requires) in
-    let piece : number_read c.read_code_point-read.result ≡ code_point (piece_at ((c.args.t.now)) c.loop-count.at) =
-    let at = c.loop-count.at in
-    let rest = drop at ((c.args.t.now)) in
-    let end = c.piece_end-end in
-    let width : end.result - at ≡ piece_end 0x20 rest = omega (arith, end.ensures) in
-    c.read_code_point-read.ensures ∙ ap (λ (n : ℕ). code_point (take n rest)) width in
-    let written : let l = c in code_point (piece_at ((c.args.t.now)) l.loop-count.at) ≡ some ((c.in-Value.c.0)) =
-    sym (piece) ∙ ap number_read c.in-Value.is in
-    let d = c in
-    let l = d.loop-count in (
-      length-set l.parts l.count ((c.in-Value.c.0)) ∙ l.invariant.0,
-      omega (arith, room),
-      rw d.piece_end-end.ensures (lists-more l.invariant.2 ((c.in-Value.c.0)) (room).1 (written) (inside)),
-    )
+pub loop-piece-preserved : goal.loop-piece-preserved
+loop-piece-preserved c =
+    let turn =
+    YieldsList-turn
+    (YieldsList-at c.into_iter-piece-iterator.ensures.into_iter_gives
+    (YieldsList-from_slice_split _ (λ o. eqb o 0x20) c.args.t.now c.split-piece-items.ensures.rest
+    c.split-piece-items.ensures.done c.split-piece-items.ensures.closure (λ x r q k. search (rules, tests))))
+    c.loop-piece.yielded _ c.loop-piece.yielded_by _ _ c.in-Some.piece c.in-Some.is c.next.ensures.steps in
+    let next : Here c.args.t.now c.in-Some.piece.now c.loop-piece.count = here _ _ _ _ c.loop-piece.invariant.read turn in
+    let l = c.loop-piece in
+    let part = c.in_ok-parts.field-0.0 in
+    let some = sym c.read_code_point.ensures ∙ ap number_read c.in_ok-parts.was in
+    record {
+      room = length-set l.parts l.count part ∙ l.invariant.room;
+      most = omega arith;
+      read = omega (arith, length_push l.yielded c.in-Some.piece);
+      lists =
+          lists-more (cut 0x20 c.args.t.now) l.invariant.lists part next.within (ap code_point next.is ∙ some)
+          (omega arith);
+    }
 
--- more parts than may be
+-- the last piece
 pub returns : goal.returns
-returns c = record { read = sym (lists-many c.loop-count.invariant.2 c.loop-count-test.false); within = search rules }
+returns c =
+    let end =
+    YieldsList-end
+    (YieldsList-at c.into_iter-piece-iterator.ensures.into_iter_gives
+    (YieldsList-from_slice_split _ (λ o. eqb o 0x20) c.args.t.now c.split-piece-items.ensures.rest
+    c.split-piece-items.ensures.done c.split-piece-items.ensures.closure (λ x r q k. search (rules, tests))))
+    c.loop-piece.yielded _ c.loop-piece.yielded_by _ _ c.in-None.is c.next.ensures.steps in
+    let pieces = cut 0x20 c.args.t.now in
+    let all : c.loop-piece.count ≡ length pieces =
+    c.loop-piece.invariant.read ∙ end.1 ∙ ap (λ (l : List (List ℕ)). length l) (sym (cut-split 0x20 c.args.t.now)) in
+    record {
+      read =
+          lists-all pieces c.loop-piece.invariant.lists (omega arith)
+          (omega (arith, cut-some 0x20 c.args.t.now))
+          c.loop-piece.invariant.most;
+      within = c.loop-piece.invariant.most;
+    }

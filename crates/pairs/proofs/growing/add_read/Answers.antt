@@ -1,6 +1,0 @@
--- `pairs::growing::add_read`: the builder keeps what is used within the slices.
-use Rattle.pairs.proofs.Taken.{used-taken}
-use Rattle.pairs.proofs.growing.add_read.Goals as goal
-
-pub returns-in-Taken : goal.returns-in-Taken
-returns-in-Taken c = λ n bound goes. (used-taken c.requires c.in-Taken.ensures, goes)
