@@ -48,5 +48,8 @@ fn put_at(numbers: &[u32], out: &mut [u32], at: usize)
     requires { at + length numbers.now ≤ length out.old }
     ensures { out.new ≡ put_at at numbers.now out.old }
 {
-    out[at..at + numbers.len()].copy_from_slice(numbers);
+    // Not by `copy_from_slice`, which calls memmove.
+    for i in 0..numbers.len() {
+        out[at + i] = numbers[i];
+    }
 }

@@ -1,4 +1,5 @@
 pub mod Cases
 pub mod Magnitudes
+pub mod Onward
 pub mod Runs
 pub mod Values

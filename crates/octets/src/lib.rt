@@ -9,7 +9,7 @@ ghost use Rattle.octets.specs.Put.{Puts};
 
 use std::cmp::{Ordering, min};
 
-// The most octets that are written in blocks. More are quicker at once.
+// The most octets that are written in blocks. More are quicker octet by octet, in a loop that the compiler widens.
 const IN_BLOCKS_MOST: usize = 32;
 
 // The order of two slices: octet by octet, unsigned; a proper prefix is less. The first four octets tell most of them apart:
@@ -72,22 +72,26 @@ pub fn put_octets(octets: &[u8], out: &mut [u8]) -> usize
     if n < 4 || IN_BLOCKS_MOST < n {
         return put_each(octets, out);
     }
-    for i in (0..n - 4).step_by(4) {
+    // By the octets that are left, not by `step_by`, whose count is not taken apart where this is inlined.
+    let mut i = 0;
+    while 4 < n - i {
         put_four(octets, i, out);
+        i += 4;
     }
     // The last block has octets of the one before again, if fewer than four are left.
     put_four(octets, n - 4, out);
     n
 }
 
-// The same at once: less code where it is inlined.
+// The same, octet by octet: less code where it is inlined, for octets that are few. Not by `copy_from_slice`, which calls memmove.
 pub fn put_each(octets: &[u8], out: &mut [u8]) -> usize
     requires { length octets.now ≤ length out.old }
     ensures { Puts octets.now out.old result out.new }
 {
-    let n = octets.len();
-    out[..n].copy_from_slice(octets);
-    n
+    for i in 0..octets.len() {
+        out[i] = octets[i];
+    }
+    octets.len()
 }
 
 // Writes four octets, those from a place on, at the same place of a slice. All are read before one is written, so that the

@@ -2,4 +2,3 @@ pub mod Cases
 pub mod CutAtTab
 pub mod Judging
 pub mod Numbers
-pub mod Tabs

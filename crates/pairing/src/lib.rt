@@ -96,5 +96,10 @@ pub fn refuse(reason: Reason) -> Refusal
 fn find_tab(line: &[u8]) -> Option<usize>
     ensures { result ≡ tab_of line.now }
 {
-    line.iter().position(|&o| o == TAB)
+    for i in 0..line.len() {
+        if line[i] == TAB {
+            return Some(i);
+        }
+    }
+    None
 }

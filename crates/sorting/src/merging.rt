@@ -1,5 +1,6 @@
 // One step of the sort: two parts of a row, each in order, become one.
 ghost use Rattle.std.specs.Prelude.{◌≡◌, true, ◌<◌, ◌≤◌, length, take, drop};
+ghost use Rattle.terms.specs.Lists.{over};
 ghost use Rattle.sorting.specs.Sorted.{merged};
 ghost use Rattle.sorting.specs.KeyOrder.{key_in, Ends, all_numbered, key_order};
 ghost use Rattle.sorting.specs.Promises.{first_left, Merges};
@@ -16,7 +17,7 @@ pub fn join(store: &[u8], ends: &[usize], row: &mut [u32], half: usize, spare: &
         (take half row.old) (drop half row.old) }
 {
     let count = merge(store, ends, row, half, spare);
-    row[..count].copy_from_slice(&spare[..count]);
+    copy_back(spare, count, row);
 }
 
 // Merges the part of a row before half with the part from there on, until the former is used up, and answers how many numbers
@@ -55,4 +56,15 @@ fn takes_left(store: &[u8], ends: &[usize], row: &[u32], i: usize, j: usize) -> 
         (drop j row.now) }
 {
     j == row.len() || may_precede(store, ends, row[i], row[j])
+}
+
+// Copies so many numbers to the start of a row. Not by `copy_from_slice`, which calls memmove.
+fn copy_back(from: &[u32], n: usize, row: &mut [u32])
+    requires n_in_bounds { n ≤ length from.now }
+    requires n_in_bounds_2 { n ≤ length row.old }
+    ensures { row.new ≡ over (take n from.now) row.old }
+{
+    for i in 0..n {
+        row[i] = from[i];
+    }
 }

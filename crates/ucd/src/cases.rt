@@ -15,7 +15,10 @@ pub fn read_titlecase(code: CodePoint, line: &[u8]) -> Result<CodePoint, LineFau
     // Field 14 is sought from field 12 on, so that the fields before are not passed again.
     let from_12 = fields::from_field(line, 12);
     let uppercase = read_optional(code, fields::find_field(from_12, 0)).ok_or(LineFault::Field12)?;
-    read_optional(uppercase, fields::find_field(from_12, 2)).ok_or(LineFault::Field14)
+    let titlecase = read_optional(uppercase, fields::find_field(from_12, 2)).ok_or(
+        LineFault::Field14,
+    )?;
+    Ok(titlecase)
 }
 
 // The code point of a field that may be empty: `other` if it is.

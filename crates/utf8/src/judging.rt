@@ -62,8 +62,8 @@ static ROWS: [[u64; 16]; 16] = [
     [ASCII; 16],
     [X80; 16],
     [X90; 16],
-    [XA0; 16],
-    [XA0; 16],
+    [XA0; 16], // A0 to AF
+    [XA0; 16], // B0 to BF
     [
         NONE, NONE, XC2, XC2, XC2, XC2, XC2, XC2, XC2, XC2, XC2, XC2, XC2, XC2, XC2, XC2,
     ],

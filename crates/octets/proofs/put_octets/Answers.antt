@@ -1,10 +1,8 @@
 -- `octets::put_octets` meets its contract. The last block is written where some of its octets may be written already.
 -- Assumes nothing.
-use Prim.Native.Nat.{◌+◌}
 use native.Mathlib.Omega.{arith}
 use Rattle.octets.proofs.Puts.{puts-block, puts-last}
 use Rattle.octets.proofs.put_octets.Goals as goal
-use Rattle.octets.proofs.put_octets.Goals.{else-loop-i-test, then-loop-i-test+else-i-end-i-gt4}
 
 -- one block more
 pub loop-i-preserved : goal.loop-i-preserved
@@ -21,15 +19,4 @@ pub returns : goal.returns
 returns c =
     let a = c.args in
     rw c.put_four-2.ensures
-    (elim c.loop-i-test.branch [
-      | else-loop-i-test w ↦
-          rw w.out-is
-          (puts-last a.octets.now a.out.now c.loop-i.i c.loop-i.out c.loop-i.invariant.1 (omega arith) (omega arith)
-          (omega arith))
-      | then-loop-i-test+else-i-end-i-gt4 w ↦
-          rw (w.out-is, w.put_four.ensures)
-          (puts-last a.octets.now a.out.now (c.loop-i.i + 4) _
-          (puts-block a.octets.now a.out.now c.loop-i.i c.loop-i.out c.loop-i.invariant.1 c.loop-i.i 4 (omega arith)
-          (omega arith) (omega arith))
-          (omega arith) (omega arith) (omega arith))
-    ])
+    (puts-last a.octets.now a.out.now c.loop-i.i c.loop-i.out c.loop-i.invariant.1 (omega arith) (omega arith) (omega arith))

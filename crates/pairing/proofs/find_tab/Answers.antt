@@ -1,13 +1,24 @@
--- `pairing::find_tab` meets its contract: std's first place of a tab is the lowest.
+-- `pairing::find_tab` meets its contract: no octet before the one reached is a tab.
 -- Assumes nothing.
-use Rattle.std.proofs.Common.{◌∙◌, rules, tests, eqb}
-use Rattle.std.proofs.lemmas.Iterator.{YieldsList-from_slice}
-use Rattle.std.proofs.lemmas.Iterator.Search.{position_from_yields_List}
-use Rattle.pairing.proofs.Tabs.{first-tab}
+use mathlib.Core.Path.{sym}
+use native.Mathlib.Omega.{arith}
+use lib.ListN.{length, get_or}
+use borrow.Author.Tests.{eq-eqb}
+use Rattle.terms.proofs.Lowest.{lowest-is, lowest-nowhere}
+use Rattle.pairing.specs.Pairing.{is_tab}
 use Rattle.pairing.proofs.find_tab.Goals as goal
 
+-- the tab
+pub returns-then-line-i-eq-TAB : goal.returns-then-line-i-eq-TAB
+returns-then-line-i-eq-TAB c =
+    let line = c.args.line.now in
+    let i = c.loop-i.i in
+    sym
+    (lowest-is (is_tab line) (length line) i (omega arith) (eq-eqb (get_or line i 0) 9 c.if-line-i-eq-TAB.true)
+    c.loop-i.invariant)
+
+-- the end
 pub returns : goal.returns
 returns c =
-    position_from_yields_List (λ o. eqb o 0x09) _ _ _ c.position.ensures.ran (YieldsList-from_slice c.args.line.now (cc))
-    (λ x b q k. search (rules, tests))
-    ∙ first-tab c.args.line.now
+    let line = c.args.line.now in
+    sym (lowest-nowhere (is_tab line) (length line) (λ k h. c.loop-i.invariant k (omega arith)))
