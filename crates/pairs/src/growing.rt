@@ -1,12 +1,14 @@
 // The table from the lines of a file.
-ghost use Rattle.std.specs.Prelude.{◌≡◌};
-ghost use Rattle.pairs.specs.Reading.{printed_number, GrownFits};
+ghost use Rattle.std.specs.Prelude.{◌≡◌, ℕ, length};
+ghost use Rattle.builder.specs.Builder.{built};
+ghost use Rattle.builder.specs.Promises.{UsedFits};
+ghost use Rattle.pairs.specs.Reading.{Stands, Goes, printed_number, GrownFits, AddedFits};
 
 use crate::reader;
+use crate::reader::{Next, Reader};
 use builder::LineState;
-use std::alloc::Global;
 use std::fs::File;
-use std::io::{BufRead, BufReader};
+use std::io::Read;
 use std::rt::Files;
 use terms::Reason;
 
@@ -31,47 +33,86 @@ impl NoTable {
     }
 }
 
-// Adds the lines of a file to a fresh table. An error is the first line's that is refused.
+// What becomes of one line more.
+#[derive(Drop)]
+pub enum Added {
+    Taken(LineState, Reader),
+    Done(Result<LineState, NoTable>),
+}
+
+// Adds the lines of a file to a fresh table. An error is the first line's that is refused, or the file's.
 pub fn grow_from<F: Files>(
     files: &F,
-    alloc: Global,
     path: &str,
-    line: &mut Vec<u8>,
+    buffer: &mut [u8],
     entries: &mut [u32],
     pool: &mut [u32],
 ) -> Result<LineState, NoTable>
     ensures { GrownFits entries.new pool.new result }
 {
-    let file = File::open(files, path).map_err(|_| NoTable::Unreadable)?;
-    let mut input = BufReader::with_capacity(alloc, reader::AT_ONCE, file).map_err(
-        |_| NoTable::Unreadable,
-    )?;
-    grow(&mut input, line, entries, pool)
+    let mut file = File::open(files, path).map_err(|_| NoTable::Unreadable)?;
+    grow(&mut file, buffer, entries, pool)
 }
 
 // Adds all lines.
-fn grow<R: BufRead>(
+fn grow<R: Read>(
     input: &mut R,
-    line: &mut Vec<u8>,
+    buffer: &mut [u8],
     entries: &mut [u32],
     pool: &mut [u32],
 ) -> Result<LineState, NoTable>
     ensures { GrownFits entries.new pool.new result }
 {
+    let mut reader = Reader::new();
     let mut state = LineState {
         entries_used: 0,
         pool_used: 0,
         next: 0,
     };
-    let mut ended = false;
-    for _ in 0..u64::MAX {
-        if !reader::read_line(input, line, &mut ended).map_err(|_| NoTable::Unreadable)? {
-            break;
+    loop {
+        match add_next(input, buffer, reader, state, entries, pool) {
+            Added::Taken(after, rest) => {
+                state = after;
+                reader = rest;
+            }
+            Added::Done(grown) => return grown,
         }
-        state = match builder::add_line(state, line.as_slice(), entries, pool) {
-            Ok(after) => after,
-            Err(refused) => return Err(NoTable::Refused(refused.refusal.reason)),
-        };
     }
-    Ok(state)
+}
+
+// Adds the next line.
+fn add_next<R: Read>(
+    input: &mut R,
+    buffer: &mut [u8],
+    reader: Reader,
+    state: LineState,
+    entries: &mut [u32],
+    pool: &mut [u32],
+) -> Added
+    requires { Stands (length buffer.old) reader × UsedFits (built state entries.old pool.old) }
+    ensures { AddedFits (length buffer.old) reader.left entries.new pool.new result }
+{
+    match reader::next_line(input, buffer, reader) {
+        Next::Line(start, end, rest) => add_read(&buffer[start..end], rest, state, entries, pool),
+        Next::Long(_) => Added::Done(Err(NoTable::Refused(Reason::LineLength))),
+        Next::Failed(_) => Added::Done(Err(NoTable::Unreadable)),
+        Next::End => Added::Done(Ok(state)),
+    }
+}
+
+// Adds a line that was read.
+fn add_read(
+    line: &[u8],
+    rest: Reader,
+    state: LineState,
+    entries: &mut [u32],
+    pool: &mut [u32],
+) -> Added
+    requires { UsedFits (built state entries.old pool.old) }
+    ensures { (n bound : ℕ) → Goes n bound rest → AddedFits n bound entries.new pool.new result }
+{
+    match builder::add_line(state, line, entries, pool) {
+        Ok(after) => Added::Taken(after, rest),
+        Err(refused) => Added::Done(Err(NoTable::Refused(refused.refusal.reason))),
+    }
 }

@@ -8,105 +8,99 @@
 
 mod answers;
 mod growing;
+mod output;
 mod reader;
 
-ghost use Rattle.std.specs.Prelude.{◌≡◌};
-ghost use Rattle.std.specs.Prelude.{None};
+ghost use Rattle.std.specs.Prelude.{◌≡◌, None};
 ghost use Rattle.table.specs.Table.{table};
 ghost use Rattle.decompose.specs.TableCheck.{table_refusal};
 ghost use Rattle.builder.specs.Builder.{built};
 ghost use Rattle.builder.specs.Promises.{UsedFits};
 
 use builder::LineState;
-use std::io;
-use std::io::{BufRead, BufReader, BufWriter, Write};
+use std::io::{Read, Write};
 use std::rt::Files;
 
-// Room for what is printed at once, in octets.
-const PRINTED_AT_ONCE: usize = 65536;
+// Room for what is read of an input at once, in octets.
+const INPUT_OCTETS: usize = 65536;
 
 // Room for the table: 1,024 entries, and 2,048 pool numbers.
 const ENTRY_NUMBERS: usize = 1024 * table::layout::ENTRY_WIDTH;
 
 const POOL_NUMBERS: usize = 2048;
 
-// The status is 0 whatever happens: a failed write ends the program, and is passed over.
 fn main(rt: HostRuntime) {
-    let _ = build(&rt);
-}
-
-// Builds the table, and goes on if no line is refused.
-fn build<R: Files + Input + Print + AllocGlobal>(rt: &R) -> io::Result<()> {
-    let mut input = BufReader::with_capacity(rt.alloc(), reader::AT_ONCE, rt.reader())?;
-    let mut printed = BufWriter::with_capacity(rt.alloc(), PRINTED_AT_ONCE, io::writer(rt))?;
-    let mut line = Vec::with_capacity(rt.alloc(), reader::LINE_ROOM)?;
+    let mut input = rt.stdin();
+    let mut printed = rt.stdout();
+    let mut buffer = [0; INPUT_OCTETS];
     let mut entries = [0; ENTRY_NUMBERS];
     let mut pool = [0; POOL_NUMBERS];
-    let done = match growing::grow_from(
-        rt,
-        rt.alloc(),
-        "ucd.txt",
-        &mut line,
+    build(
+        &rt,
+        &mut input,
+        &mut printed,
+        &mut buffer,
         &mut entries,
         &mut pool,
-    ) {
-        Ok(state) => start(state, &mut input, &mut printed, &mut line, &entries, &pool),
-        Err(none) => refuse_table(&mut printed, none.number()),
-    };
-    // All is written by now, or a write failed: then nothing more is, as would be where the writer is dropped.
-    let _ = printed.into_parts();
-    done
+    );
+}
+
+// Builds the table in the lent slices, and goes on if no line is refused.
+fn build<F: Files, R: Read, W: Write>(
+    files: &F,
+    input: &mut R,
+    printed: &mut W,
+    buffer: &mut [u8],
+    entries: &mut [u32],
+    pool: &mut [u32],
+) {
+    match growing::grow_from(files, "ucd.txt", buffer, entries, pool) {
+        Ok(state) => start(state, input, printed, buffer, entries, pool),
+        Err(none) => output::refuse_table(printed, none.number()),
+    }
 }
 
 // Cuts the slices to what is used.
-fn start<R: BufRead, W: Write>(
+fn start<R: Read, W: Write>(
     state: LineState,
     input: &mut R,
     printed: &mut W,
-    line: &mut Vec<u8>,
+    buffer: &mut [u8],
     entries: &[u32],
     pool: &[u32],
-) -> io::Result<()>
+)
     requires { UsedFits (built state entries.now pool.now) }
 {
     let used = table::layout::first_entries(entries, state.entries_used);
-    run(input, printed, line, used, &pool[..state.pool_used])
+    run(input, printed, buffer, used, &pool[..state.pool_used]);
 }
 
 // Checks the table once, and answers all lines.
-fn run<R: BufRead, W: Write>(
+fn run<R: Read, W: Write>(
     input: &mut R,
     printed: &mut W,
-    line: &mut Vec<u8>,
+    buffer: &mut [u8],
     entries: &[u32],
     pool: &[u32],
-) -> io::Result<()> {
+) {
     match decompose::check_table(entries, pool) {
-        Ok(()) => answer(input, printed, line, entries, pool),
-        Err(refusal) => refuse_table(printed, refusal.reason.number()),
+        Ok(()) => answer(input, printed, buffer, entries, pool),
+        Err(refusal) => output::refuse_table(printed, refusal.reason.number()),
     }
 }
 
 // Fills the pages of an accepted table, and answers all lines.
-fn answer<R: BufRead, W: Write>(
+fn answer<R: Read, W: Write>(
     input: &mut R,
     printed: &mut W,
-    line: &mut Vec<u8>,
+    buffer: &mut [u8],
     entries: &[u32],
     pool: &[u32],
-) -> io::Result<()>
+)
     requires { table_refusal (table entries.now pool.now) ≡ None }
 {
     let mut presence = [0; terms::PAGES_MOST];
     let mut ranks = [0; terms::PAGES_MOST];
     pages::fill_pages(entries, &mut presence, &mut ranks);
-    answers::answer_all(input, printed, line, entries, pool, &presence, &ranks)
-}
-
-// Prints the only line where a data line or the table is refused.
-fn refuse_table<W: Write>(printed: &mut W, number: u32) -> io::Result<()> {
-    let mut words = [0; pairing::WORDS_MOST];
-    let n = pairing::put_table_refusal(number, &mut words);
-    printed.write_all(&words[..n])?;
-    printed.flush()
+    answers::answer_all(input, printed, buffer, entries, pool, &presence, &ranks);
 }
