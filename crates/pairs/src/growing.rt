@@ -8,15 +8,14 @@ use std::alloc::Global;
 use std::fs::File;
 use std::io::{BufRead, BufReader};
 use std::rt::Files;
-use terms::Reason;
 
 // Why the lines of a file make no table.
 #[derive(Clone, Copy, PartialEq, Eq, Debug)]
 pub enum NoTable {
     // The file can't be read.
     Unreadable,
-    // A line is refused.
-    Refused(Reason),
+    // A line is refused, by its number.
+    Refused(u32),
 }
 
 impl NoTable {
@@ -26,7 +25,7 @@ impl NoTable {
     {
         match self {
             NoTable::Unreadable => 0,
-            NoTable::Refused(reason) => reason.number(),
+            NoTable::Refused(number) => number,
         }
     }
 }
@@ -70,7 +69,7 @@ fn grow<R: BufRead>(
         }
         state = match builder::add_line(state, line.as_slice(), entries, pool) {
             Ok(after) => after,
-            Err(refused) => return Err(NoTable::Refused(refused.refusal.reason)),
+            Err(refused) => return Err(NoTable::Refused(refused.refusal.number)),
         };
     }
     Ok(state)

@@ -83,7 +83,7 @@ fn run<R: BufRead, W: Write>(
 ) -> io::Result<()> {
     match decompose::check_table(entries, pool) {
         Ok(()) => answer(input, printed, line, entries, pool),
-        Err(refusal) => refuse_table(printed, refusal.reason.number()),
+        Err(refusal) => refuse_table(printed, refusal.number),
     }
 }
 
