@@ -86,7 +86,7 @@ fn refused(reason: Reason, state: LineState) -> RefusedLine
 {
     RefusedLine {
         refusal: Refusal {
-            reason,
+            number: reason.number(),
             place: 0,
             detail: 0,
         },

@@ -33,12 +33,12 @@ pub fn check_levels(entries: &[u32], pool: &[u32]) -> Result<(), Refusal>
                 pool,
             );
             if measurement.is_none() {
-                return Err(table::refused_at(Reason::Level, i));
+                return Err(table::refused_at(Reason::Level.number(), i));
             }
         }
     }
     if !syllables_fit(entries, pool) {
-        return Err(table::refused_at(Reason::Level, count));
+        return Err(table::refused_at(Reason::Level.number(), count));
     }
     Ok(())
 }

@@ -53,7 +53,7 @@ fn count_in(place: u32, list: &[u8]) -> Result<NameCount, Refusal>
 {
     match count_names(list) {
         Ok(n) => Ok(n),
-        Err(r) => Err(refused(r.reason, place, r.detail)),
+        Err(r) => Err(Refusal { place, ..r }),
     }
 }
 
@@ -95,7 +95,7 @@ fn refused(reason: Reason, place: u32, detail: u64) -> Refusal
     ensures { result ≡ refusal (reason_number reason) place detail }
 {
     Refusal {
-        reason,
+        number: reason.number(),
         place,
         detail,
     }

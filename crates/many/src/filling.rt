@@ -74,7 +74,7 @@ fn check_store(
     let needed = size_many(collation, octets, ends, entries, pool, presence, ranks);
     if room < needed {
         return Err(Refusal {
-            reason: Reason::Room,
+            number: Reason::Room.number(),
             place: 0,
             detail: needed as u64,
         });

@@ -32,7 +32,7 @@ pub fn line_row(line: Result<LineState, RefusedLine>) -> [u64; 6]
             after.next as u64,
         ],
         Err(e) => [
-            e.refusal.reason.number() as u64,
+            e.refusal.number as u64,
             e.refusal.place as u64,
             e.refusal.detail,
             e.state.entries_used as u64,

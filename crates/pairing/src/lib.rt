@@ -15,7 +15,6 @@ ghost use Rattle.prepare.specs.Calls.{Called};
 ghost use Rattle.compare.specs.Compare.{order_outcome, order_values};
 ghost use Rattle.pairing.specs.Pairing.{tab_of, call_around};
 ghost use Rattle.pairing.specs.Promises.{Judges};
-ghost use Rattle.terms.specs.Reasons.{reason_number};
 
 use std::cmp::Ordering;
 use terms::{Reason, Refusal};
@@ -44,9 +43,9 @@ pub fn judge(
         (first_key.new ∷ second_key.new ∷ []) }
 {
     if PAIR_MOST < line.len() {
-        return Err(refuse(Reason::TextLength));
+        return Err(refuse(Reason::TextLength.number()));
     }
-    let at = find_tab(line).ok_or(refuse(Reason::NoTab))?;
+    let at = find_tab(line).ok_or(refuse(Reason::NoTab.number()))?;
     order_around(
         line, at, entries, pool, presence, ranks, first_key, second_key,
     )
@@ -82,11 +81,11 @@ fn order_around(
 }
 
 // The refusal of a line by its number alone: place and detail are 0.
-pub fn refuse(reason: Reason) -> Refusal
-    ensures { result ≡ refusal (reason_number reason) 0 0 }
+pub fn refuse(number: u32) -> Refusal
+    ensures { result ≡ refusal number 0 0 }
 {
     Refusal {
-        reason,
+        number,
         place: 0,
         detail: 0,
     }

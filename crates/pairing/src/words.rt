@@ -21,7 +21,7 @@ pub fn put_answer(answer: Result<Ordering, Refusal>, out: &mut [u8]) -> usize
         Ok(Ordering::Less) => put_octets(b"less\n", out),
         Ok(Ordering::Equal) => put_octets(b"equal\n", out),
         Ok(Ordering::Greater) => put_octets(b"greater\n", out),
-        Err(r) => put_numbered(b"refused ", u64::from(r.reason.number()), out),
+        Err(r) => put_numbered(b"refused ", u64::from(r.number), out),
     }
 }
 

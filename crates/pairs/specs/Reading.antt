@@ -5,7 +5,6 @@ use Rattle.std.specs.Prelude.{ℕ, ◌+◌, ◌≤◌, ◌<◌, List, Result, Ok
 use Rattle.builder.specs.Builder.{built}
 use Rattle.builder.specs.Promises.{UsedFits}
 use Rattle.builder.specs.declared.LineState.{LineState}
-use Rattle.terms.specs.Reasons.{reason_number}
 use Rattle.pairing.specs.Words.{words_most}
 use Rattle.pairs.specs.declared.reader.Reader.{Reader}
 use Rattle.pairs.specs.declared.reader.Next.{Next}
@@ -55,7 +54,7 @@ Steps n bound (More r) = Goes n bound r
 -- the number that is printed where there is no table: 0 "if the file can't be read"
 abbrev pub printed_number : NoTable → ℕ
 printed_number Unreadable = 0
-printed_number (Refused r) = reason_number r
+printed_number (Refused n) = n
 
 -- what became of the lines of a file: what the state says is used lies within the slices
 abbrev pub GrownFits : List ℕ → List ℕ → Result LineState NoTable → Type 0

@@ -117,7 +117,7 @@ fn answer_next<R: Read>(
             );
             Answered::Answer(answer, rest)
         }
-        Next::Long(rest) => Answered::Answer(Err(pairing::refuse(Reason::TextLength)), rest),
+        Next::Long(rest) => Answered::Answer(Err(pairing::refuse(Reason::TextLength.number())), rest),
         Next::Failed(rest) => Answered::Nothing(rest),
         Next::End => Answered::End,
     }

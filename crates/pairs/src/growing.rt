@@ -17,8 +17,8 @@ use terms::Reason;
 pub enum NoTable {
     // The file can't be read.
     Unreadable,
-    // A line is refused.
-    Refused(Reason),
+    // A line is refused, by its number.
+    Refused(u32),
 }
 
 impl NoTable {
@@ -28,7 +28,7 @@ impl NoTable {
     {
         match self {
             NoTable::Unreadable => 0,
-            NoTable::Refused(reason) => reason.number(),
+            NoTable::Refused(number) => number,
         }
     }
 }
@@ -94,7 +94,7 @@ fn add_next<R: Read>(
 {
     match reader::next_line(input, buffer, reader) {
         Next::Line(start, end, rest) => add_read(&buffer[start..end], rest, state, entries, pool),
-        Next::Long(_) => Added::Done(Err(NoTable::Refused(Reason::LineLength))),
+        Next::Long(_) => Added::Done(Err(NoTable::Refused(Reason::LineLength.number()))),
         Next::Failed(_) => Added::Done(Err(NoTable::Unreadable)),
         Next::End => Added::Done(Ok(state)),
     }
@@ -113,6 +113,6 @@ fn add_read(
 {
     match builder::add_line(state, line, entries, pool) {
         Ok(after) => Added::Taken(after, rest),
-        Err(refused) => Added::Done(Err(NoTable::Refused(refused.refusal.reason))),
+        Err(refused) => Added::Done(Err(NoTable::Refused(refused.refusal.number))),
     }
 }

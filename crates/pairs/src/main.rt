@@ -85,7 +85,7 @@ fn run<R: Read, W: Write>(
 ) {
     match decompose::check_table(entries, pool) {
         Ok(()) => answer(input, printed, buffer, entries, pool),
-        Err(refusal) => output::refuse_table(printed, refusal.reason.number()),
+        Err(refusal) => output::refuse_table(printed, refusal.number),
     }
 }
 

@@ -99,7 +99,7 @@ fn refused(reason: Reason, place: u32, detail: usize) -> Refusal
     ensures { result ≡ refusal (reason_number reason) place detail }
 {
     Refusal {
-        reason,
+        number: reason.number(),
         place,
         detail: detail as u64,
     }

@@ -115,7 +115,7 @@ fn refusal(reason: Reason, detail: usize) -> Refusal
     ensures { result ≡ refusal (reason_number reason) 0 detail }
 {
     Refusal {
-        reason,
+        number: reason.number(),
         place: 0,
         detail: detail as u64,
     }

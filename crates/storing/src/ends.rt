@@ -46,7 +46,7 @@ fn refused(reason: Reason, detail: usize) -> Refusal
     ensures { result ≡ refusal (reason_number reason) 1 detail }
 {
     Refusal {
-        reason,
+        number: reason.number(),
         place: 1,
         detail: detail as u64,
     }

@@ -11,7 +11,7 @@ pub fn check_arrays(one: usize, two: usize, names: usize) -> Result<(), Refusal>
 {
     if one < names || two < names {
         return Err(Refusal {
-            reason: Reason::Room,
+            number: Reason::Room.number(),
             place: 0,
             detail: names as u64,
         });

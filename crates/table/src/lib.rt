@@ -13,7 +13,6 @@ ghost use Rattle.terms.specs.Refusals.{refusal, answer, check_outcome};
 ghost use Rattle.table.specs.Layout.{entry_count};
 ghost use Rattle.table.specs.Table.{table, form_refusal, entry_of, parts_in, entry_parts};
 ghost use Rattle.table.specs.Promises.{Ascending, Candidates};
-ghost use Rattle.terms.specs.Reasons.{reason_number};
 
 use terms::{CodePoint, Reason, Refusal};
 
@@ -23,19 +22,19 @@ pub fn check_form(entries: &[u32], pool: &[u32]) -> Result<(), Refusal>
 {
     if faults::is_faulty_size(entries, pool) {
         return Err(Refusal {
-            reason: Reason::TableSize,
+            number: Reason::TableSize.number(),
             place: 0,
             detail: 0,
         });
     }
     if let Some(i) = faults::faulty_code(entries) {
-        return Err(refused_at(Reason::CodePoint, i));
+        return Err(refused_at(Reason::CodePoint.number(), i));
     }
     if let Some(i) = faults::faulty_entry(entries, pool) {
-        return Err(refused_at(Reason::Entry, i));
+        return Err(refused_at(Reason::Entry.number(), i));
     }
     if let Some(i) = faults::faulty_number(pool) {
-        return Err(refused_at(Reason::PoolNumber, i));
+        return Err(refused_at(Reason::PoolNumber.number(), i));
     }
     Ok(())
 }
@@ -68,11 +67,11 @@ pub fn parts_at<'a>(entries: &[u32], pool: &'a [u32], i: usize) -> &'a [u32]
 }
 
 // A refusal that names a place.
-pub fn refused_at(reason: Reason, i: usize) -> Refusal
-    ensures { result ≡ refusal (reason_number reason) 0 i }
+pub fn refused_at(number: u32, i: usize) -> Refusal
+    ensures { result ≡ refusal number 0 i }
 {
     Refusal {
-        reason,
+        number,
         place: 0,
         detail: i as u64,
     }

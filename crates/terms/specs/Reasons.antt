@@ -1,6 +1,6 @@
 -- The numbers of refusals in documents 01 and 02, and a refusal as clauses see it: by its number.
 -- Assumes nothing.
-use Rattle.std.specs.Prelude.{◌≡◌, ℕ, eqb, cond, refl}
+use Rattle.std.specs.Prelude.{ℕ}
 use Rattle.terms.specs.declared.Reason.{Reason}
 use Rattle.terms.specs.declared.Reason.TheVariants.{Collation, TextLength, TableSize, CodePoint, Entry, PoolNumber, Level, Room, NoTab, RecordLength, RecordKind, RecordBody, Count, Pages, LineLength, FieldCount, Field0, Field5, Field14, Surrogate, Order, TableRoom, State, Field12, End, FirstCount}
 

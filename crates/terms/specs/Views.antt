@@ -1,7 +1,6 @@
--- What clauses see of a refusal, and the refusal that is seen so.
+-- What clauses see of a refusal, and the refusal that is seen so; the reason of a number.
 -- Assumes nothing.
 use Rattle.std.specs.Prelude.{◌≡◌, ℕ, cond, eqb, refl}
-use Rattle.std.proofs.Common.{ap}
 use Rattle.terms.specs.Reasons.{Refused, reason_number}
 use Rattle.terms.specs.declared.Reason.{Reason}
 use Rattle.terms.specs.declared.Reason.TheVariants.{Collation, TextLength, TableSize, CodePoint, Entry, PoolNumber, Level, Room, NoTab, RecordLength, RecordKind, RecordBody, Count, Pages, LineLength, FieldCount, Field0, Field5, Field14, Surrogate, Order, TableRoom, State, Field12, End, FirstCount}
@@ -9,7 +8,7 @@ use Rattle.terms.specs.declared.Refusal.TheInside.{Inside}
 
 -- a refusal by its number
 abbrev pub refused_by : Inside → Refused
-refused_by r = record { number = reason_number r.reason; place = r.place; detail = r.detail }
+refused_by r = record { number = r.number; place = r.place; detail = r.detail }
 
 -- the reason of a number; of one that no reason has, any
 abbrev pub reason_numbered : ℕ → Reason
@@ -41,10 +40,11 @@ reason_numbered n =
     (cond (eqb n 36) End
     (cond (eqb n 37) FirstCount Collation)))))))))))))))))))))))))
 
--- and back
+-- and the refusal that is seen so
 abbrev pub refusing : Refused → Inside
-refusing x = record { reason = reason_numbered x.number; place = x.place; detail = x.detail }
+refusing x = record { number = x.number; place = x.place; detail = x.detail }
 
+-- reasons have different numbers
 pub reason_numbered-back : (r : Reason) → reason_numbered (reason_number r) ≡ r
 reason_numbered-back Collation = refl
 reason_numbered-back TextLength = refl
@@ -74,4 +74,4 @@ reason_numbered-back End = refl
 reason_numbered-back FirstCount = refl
 
 pub refusing-refused_by : (a : Inside) → refusing (refused_by a) ≡ a
-refusing-refused_by a = ap (λ (r : Reason). record { reason = r; place = a.place; detail = a.detail }) (reason_numbered-back a.reason)
+refusing-refused_by a = refl

@@ -122,10 +122,10 @@ impl Reason {
     }
 }
 
-// Why a call is refused: the reason, which text or list (1 or 2, 0 neither), and the detail. Clauses see the reason's number.
+// Why a call is refused: its number in documents 01 and 02, which text or list (1 or 2, 0 neither), and the detail.
 #[derive(Clone, Copy)]
 pub struct Refusal {
-    pub reason: Reason,
+    pub number: u32,
     pub place: u32,
     pub detail: u64,
 }
@@ -220,7 +220,7 @@ pub fn refused_row<const N: usize>(r: Refusal) -> [u64; N]
     ensures { result ≡ row (N - 3) (refused r) }
 {
     let mut row = [0; N];
-    row[0] = r.reason.number() as u64;
+    row[0] = r.number as u64;
     row[1] = r.place as u64;
     row[2] = r.detail;
     row

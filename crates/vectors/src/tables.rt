@@ -39,9 +39,7 @@ fn check(rt: &impl Print, name: &str, entries: &[u32], pool: &[u32]) {
         Ok(()) => println!(rt; "table, {name}: accepted"),
         Err(r) => println!(rt;
             "table, {name}: refused {} {} {}",
-            r.reason.number(),
-            r.place,
-            r.detail
+            r.number, r.place, r.detail
         ),
     };
 }

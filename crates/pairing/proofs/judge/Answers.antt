@@ -9,7 +9,7 @@ use Rattle.pairing.proofs.judge.Goals as goal
 
 -- over 8,193 octets
 pub returns-then-line-gt-PAIR_MOST : goal.returns-then-line-gt-PAIR_MOST
-returns-then-line-gt-PAIR_MOST c = rw c.refuse.ensures (judges-long c.if-line-gt-PAIR_MOST.true)
+returns-then-line-gt-PAIR_MOST c = rw (c.refuse.ensures, c.number.ensures) (judges-long c.if-line-gt-PAIR_MOST.true)
 
 -- no tab
 pub returns-in_err-at : goal.returns-in_err-at
@@ -17,7 +17,7 @@ returns-in_err-at c =
     let none : c.find_tab.result ≡ None = grind arith in
     let err = err_from_is_err_and c.from_residual.result c.from_residual.ensures.1 in
     let is : c.refuse-2.result ≡ err.0 = grind arith in
-    rw (err.1, ← is, c.refuse-2.ensures) (judges-tabless c.if-line-gt-PAIR_MOST.false (sym c.find_tab.ensures ∙ none))
+    rw (err.1, ← is, c.refuse-2.ensures, c.number-2.ensures) (judges-tabless c.if-line-gt-PAIR_MOST.false (sym c.find_tab.ensures ∙ none))
 
 -- a tab was found
 pub order_around-requires : goal.order_around-requires

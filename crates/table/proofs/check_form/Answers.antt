@@ -29,14 +29,14 @@ answer-found t e3 e4 e5 e6 = rw (e3, e4, e5, e6)
 pub returns-then-is_faulty_size : goal.returns-then-is_faulty_size
 returns-then-is_faulty_size c =
     let t = table c.args.entries.now c.args.pool.now in
-    answer-found t (sym c.if-is_faulty_size.true ∙ c.is_faulty_size.ensures) refl refl refl
+    rw c.number.ensures (answer-found t (sym c.if-is_faulty_size.true ∙ c.is_faulty_size.ensures) refl refl refl)
 
 -- refused for a code point
 pub returns-in-Some : goal.returns-in-Some
 returns-in-Some c =
     let t = table c.args.entries.now c.args.pool.now in
     let size = sym c.if-is_faulty_size.false ∙ c.is_faulty_size.ensures in
-    rw c.refused_at.ensures (answer-found t size (sym c.in-Some.is ∙ c.faulty_code.ensures) refl refl)
+    rw (c.refused_at.ensures, c.number-in-Some.ensures) (answer-found t size (sym c.in-Some.is ∙ c.faulty_code.ensures) refl refl)
 
 -- refused for an entry
 pub returns-in-Some-faulty_entry : goal.returns-in-Some-faulty_entry
@@ -45,7 +45,7 @@ returns-in-Some-faulty_entry c =
     let size = sym c.if-is_faulty_size.false ∙ c.is_faulty_size.ensures in
     let codes = sym c.in_default.is ∙ c.faulty_code.ensures in
     let fault = sym c.in-Some-faulty_entry.is ∙ c.faulty_entry.ensures in
-    rw c.refused_at-in-Some-faulty_entry.ensures (answer-found t size codes fault refl)
+    rw (c.refused_at-in-Some-faulty_entry.ensures, c.number-in-Some-faulty_entry.ensures) (answer-found t size codes fault refl)
 
 -- refused for a pool number
 pub returns-in-Some-faulty_number : goal.returns-in-Some-faulty_number
@@ -55,7 +55,7 @@ returns-in-Some-faulty_number c =
     let codes = sym c.in_default.is ∙ c.faulty_code.ensures in
     let entries = sym c.in_default-faulty_entry.is ∙ c.faulty_entry.ensures in
     let fault = sym c.in-Some-faulty_number.is ∙ c.faulty_number.ensures in
-    rw c.refused_at-in-Some-faulty_number.ensures (answer-found t size codes entries fault)
+    rw (c.refused_at-in-Some-faulty_number.ensures, c.number-in-Some-faulty_number.ensures) (answer-found t size codes entries fault)
 
 -- accepted
 pub returns : goal.returns

@@ -11,7 +11,7 @@ use lib.ListN.{length}
 use borrow.Author.Count.{below_more}
 use borrow.Author.Tests.{not-true, not-false}
 use Rattle.terms.specs.Lists.{when}
-use Rattle.terms.specs.Refusals.{levels_most, full_most, answer, refused}
+use Rattle.terms.specs.Refusals.{levels_most, full_most, answer}
 use Rattle.terms.proofs.Checks.{or_else-first, or_else-second}
 use Rattle.terms.proofs.Lowest.{lowest-is, lowest-nowhere}
 use Rattle.table.specs.Mapping.{Mapping}
@@ -58,7 +58,7 @@ returns-then-is_none c =
     let faulty = measured-fault (mapping_of t) (code_at t.entries i) _ _ measured_here (c.is_none.ensures ∙ ap not c.if-is_none.true) in
     let n = entry_count t.entries in
     let found = or_else-first _ _ i (lowest-is (faulty_level t) n i (omega arith) faulty l.loop-i.invariant) in
-    ap refused c.refused_at.ensures ∙ sym (ap (λ (o : Option ℕ). answer (refused_at 7 o) []) found)
+    rw (c.refused_at.ensures, c.number.ensures) (sym (ap (λ (o : Option ℕ). answer (refused_at 7 o) []) found))
 
 -- one entry more that is not faulty: it was measured, or has no parts
 pub loop-i-preserved : goal.loop-i-preserved
@@ -95,7 +95,7 @@ returns-then-not-syllables_fit c =
     let faulty = not-false (faulty_syllable (mapping_of t)) unfit in
     let found = passed ∙ ap (λ b. when b (entry_count t.entries)) faulty
     ∙ ap Some (sym l.entry_count-count.ensures) in
-    ap refused c.refused_at-then-not-syllables_fit.ensures ∙ sym (ap (λ (o : Option ℕ). answer (refused_at 7 o) []) found)
+    rw (c.refused_at-then-not-syllables_fit.ensures, c.number-then-not-syllables_fit.ensures) (sym (ap (λ (o : Option ℕ). answer (refused_at 7 o) []) found))
 
 -- none has
 pub returns : goal.returns
