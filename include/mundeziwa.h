@@ -3,8 +3,8 @@
  * Each call of this header takes any octets, any two slices as a table, buffers and pages of any lengths, and ends with an answer.
  * Their twins without the check of the table, for callers that keep one table for many texts, are in mundeziwa_accepted.h.
  *
- * The library keeps nothing, allocates nothing and calls nothing but memcpy, memmove and memset: no locale, no errno, no global
- * state. Any number of threads may call it at once. All memory is the caller's, lent for the call alone.
+ * The library keeps nothing, allocates nothing and calls nothing but memcpy and memset: no locale, no errno, no global state. Any
+ * number of threads may call it at once. All memory is the caller's, lent for the call alone.
  *
  * SLICES. A slice is a pointer and the number of its ELEMENTS (octets of a text, 32-bit numbers of a table, 64-bit numbers of
  * pages). Where the number is 0 the pointer may be anything that is aligned, but not NULL. Slices that are written (presence and
