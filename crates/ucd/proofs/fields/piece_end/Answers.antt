@@ -1,16 +1,23 @@
--- `ucd::fields::piece_end` meets its contract: a piece ends at the first place of a separator.
+-- `ucd::fields::piece_end` meets its contract.
 -- Assumes nothing.
-use Rattle.std.proofs.Common.{◌∙◌, rules, tests, eqb}
-use Rattle.std.proofs.lemmas.Iterator.{YieldsList-from_slice}
-use Rattle.std.proofs.lemmas.Iterator.Search.{position_from_yields_List}
-use Rattle.ucd.proofs.Cutting.{piece_end-found}
+use native.Mathlib.Omega.{arith}
+use Rattle.ucd.proofs.Cutting.{piece_end-end, piece_end-here, piece_end-later}
 use Rattle.ucd.proofs.fields.piece_end.Goals as goal
 
+-- the separator
+pub returns-then-t-i : goal.returns-then-t-i
+returns-then-t-i c =
+    let a = c.args in
+    omega (arith, piece_end-here a.separator a.t.now c.loop-i.i (omega arith) c.if-t-i.true)
+
+-- another octet
+pub loop-i-preserved : goal.loop-i-preserved
+loop-i-preserved c =
+    let a = c.args in
+    omega (arith, piece_end-later a.separator a.t.now c.loop-i.i (omega arith) c.if-t-i.false)
+
+-- the end
 pub returns : goal.returns
 returns c =
-    let t = c.args.t.now in
-    let found =
-    position_from_yields_List (λ o. eqb o c.args.separator) _ _ c.position.result c.position.ensures.ran
-    (YieldsList-from_slice t (cc))
-    (λ x b q k. search (rules, tests)) in
-    c.unwrap_or.ensures ∙ piece_end-found c.args.separator t _ found
+    let a = c.args in
+    omega (arith, piece_end-end a.separator a.t.now c.loop-i.i (omega arith))

@@ -1,0 +1,10 @@
+-- `ucd::fields::piece_end` meets its contract. The loop's invariant: the piece ends where that from the octet reached does.
+-- Assumes nothing.
+use mathlib.Core.Path.{◌≡◌}
+use Prim.Native.Nat.{◌+◌}
+use lib.ListN.{drop}
+use Rattle.ucd.specs.Promises.{piece_end}
+use Rattle.ucd.proofs.fields.piece_end.Given as goal
+
+abbrev pub invariant-loop-i : goal.invariant-loop-i
+invariant-loop-i l = piece_end l.separator l.t ≡ l.i + piece_end l.separator (drop l.i l.t)
