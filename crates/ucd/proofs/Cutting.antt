@@ -1,15 +1,15 @@
 -- Laws of `cut` and `piece_end`: a list of pieces is its first piece and the pieces after the separator.
 -- Assumes nothing.
-use mathlib.Core.Path.{◌≡◌, refl, ◌∙◌, ap}
-use Prim.Native.Nat.{ℕ, suc, ◌+◌, ◌≤◌, ◌<◌}
+use mathlib.Core.Path.{◌≡◌, refl, sym, ◌∙◌, ap}
+use Prim.Native.Nat.{ℕ, suc, ◌+◌, ◌-◌, ◌≤◌, ◌<◌}
 use native.Mathlib.Omega.{arith}
 use native.Mathlib.Decide.{ℕ_discrete}
 use mathlib.Core.Bool.{Bool, true, false, cond, not}
 use mathlib.Core.List.{List, [], ◌∷◌}
 use lib.Dec.{eqb, ltb}
 use Rattle.std.specs.Prelude.{Option, None, Some, unwrap_or}
-use lib.ListN.{length, take, drop, get_or, drop_of_length-le}
-use lib.Seq.{drop-length, get_or-drop}
+use lib.ListN.{length, take, drop, get_or, length-drop, drop_of_length-le}
+use lib.Seq.{drop-length, get_or-drop, drop-drop}
 use borrow.Author.Tests.{ltb-false, eq-eqb, ne_eqb}
 use Rattle.std.specs.List.{position_or_len, slice_split, onto_first, count_by}
 use Rattle.std.proofs.lemmas.List.Splits.{length-slice_split}
@@ -109,6 +109,18 @@ pub cut-more : (sep : ℕ) (t : List ℕ)
     → cut sep t ≡ take (piece_end sep t) t ∷ cut sep (drop (piece_end sep t + 1) t)
 cut-more sep t h = cut_step sep t ∙ rw (drop-one t (piece_end sep t) h)
 
+-- the same from a place of a list on
+pub cut-next : (sep : ℕ) (t : List ℕ) (at : ℕ)
+    → at + piece_end sep (drop at t) < length t
+    → cut sep (drop at t)
+    ≡ take (piece_end sep (drop at t)) (drop at t) ∷ cut sep (drop (at + piece_end sep (drop at t) + 1) t)
+cut-next sep t at h =
+    let n = piece_end sep (drop at t) in
+    let inside : n < length (drop at t) = omega (arith, length-drop at t) in
+    let place : at + (n + 1) ≡ at + n + 1 = omega arith in
+    cut-more sep (drop at t) inside
+    ∙ ap (λ (l : List ℕ). take n (drop at t) ∷ cut sep l) (drop-drop (n + 1) at t ∙ ap (λ (m : ℕ). drop m t) place)
+
 -- a cut of more pieces than one has a separator
 pub cut-inside : (sep : ℕ) (t : List ℕ) → 1 < length (cut sep t) → piece_end sep t < length t
 cut-inside sep t h = go (ℕ_discrete (piece_end sep t) (length t))
@@ -154,6 +166,57 @@ length_cut sep (o ∷ os) = go (eqb o sep) (length_cut sep os)
 -- and one more than std counts
 pub length-cut-count : (sep : ℕ) (t : List ℕ) → length (cut sep t) ≡ count_by (λ o. eqb o sep) t + 1
 length-cut-count sep t = rw (cut-split sep t) (length-slice_split (λ o. eqb o sep) t)
+
+-- ---- walking from piece to piece
+
+-- a walk stands at the start of piece i
+pub record Stands (sep : ℕ) (t : List ℕ) (i at : ℕ) : Type 0 where
+  pub within : at ≤ length t
+  pub rest : drop i (cut sep t) ≡ cut sep (drop at t)
+
+-- at first at piece 0
+pub stands-first : (sep : ℕ) (t : List ℕ) → Stands sep t 0 0
+stands-first sep t = record { within = omega arith; rest = refl }
+
+-- the piece is within the list
+pub stands-most : {sep : ℕ} {t : List ℕ} {i at : ℕ} → Stands sep t i at → at + piece_end sep (drop at t) ≤ length t
+stands-most {sep} {t} {i} {at} s =
+    let h : at ≤ length t = s.within in
+    omega (arith, piece_end-most sep (drop at t), length-drop at t)
+
+-- the next piece stands after the separator
+pub stands-more : {sep : ℕ} {t : List ℕ} {i at : ℕ}
+    → Stands sep t i at
+    → at + piece_end sep (drop at t) < length t
+    → Stands sep t (i + 1) (at + piece_end sep (drop at t) + 1)
+stands-more {sep} {t} {i} {at} s h =
+    let next : drop 1 (drop i (cut sep t)) ≡ cut sep (drop (at + piece_end sep (drop at t) + 1) t) =
+    rw (s.rest, cut-next sep t at h) in
+    record { within = omega arith; rest = sym (drop-drop 1 i (cut sep t)) ∙ next }
+
+-- how many pieces are left
+pub stands-count : {sep : ℕ} {t : List ℕ} {i at : ℕ} → Stands sep t i at → length (cut sep t) - i ≡ length (cut sep (drop at t))
+stands-count {sep} {t} {i} {at} s = sym (length-drop i (cut sep t)) ∙ ap (λ (l : List (List ℕ)). length l) s.rest
+
+-- at the end no piece follows
+pub stands-end : {sep : ℕ} {t : List ℕ} {i at : ℕ}
+    → Stands sep t i at
+    → at + piece_end sep (drop at t) ≡ length t
+    → cut sep (drop at t) ≡ take (piece_end sep (drop at t)) (drop at t) ∷ []
+stands-end {sep} {t} {i} {at} s e = cut-last sep (drop at t) (omega (arith, length-drop at t, s.within))
+
+-- where a piece follows, the separator is within the list
+pub stands-inside : {sep : ℕ} {t : List ℕ} {i at : ℕ}
+    → Stands sep t i at
+    → i + 1 < length (cut sep t)
+    → at + piece_end sep (drop at t) < length t
+stands-inside {sep} {t} {i} {at} s h = go (ℕ_discrete (at + piece_end sep (drop at t)) (length t))
+  where
+    go : Dec (at + piece_end sep (drop at t) ≡ length t) → at + piece_end sep (drop at t) < length t
+    go (yes e) =
+        let one : length (cut sep (drop at t)) ≡ 1 = rw (stands-end s e) in
+        absurd (omega (arith, stands-count s))
+    go (no ne) = omega (arith, stands-most s)
 
 -- ---- fields
 

@@ -1,17 +1,18 @@
 // Cutting octets into pieces between separators: the fields of a line, and the parts of field 5.
-ghost use Rattle.std.specs.Prelude.{◌≡◌, ◌<◌, length, drop};
+ghost use Rattle.std.specs.Prelude.{◌≡◌, ◌+◌, ◌≤◌, ◌<◌, length, drop};
 ghost use Rattle.ucd.specs.Fields.{fields, field};
 ghost use Rattle.ucd.specs.Promises.{piece_end};
 
 // Between the fields of a line.
 pub const SEMICOLON: u8 = b';';
 
-// Where the first piece ends: at the first separator, or at the end.
-pub fn piece_end(t: &[u8], separator: u8) -> usize
-    ensures { result ≡ piece_end separator t.now }
+// Where the piece that starts at a place ends: at the next separator, or at the end. Not by `position`, nor by a slice for each
+// piece: a line then takes a third longer to read.
+pub fn piece_end(t: &[u8], start: usize, separator: u8) -> usize
+    requires { start ≤ length t.now }
+    ensures { result ≡ start + piece_end separator (drop start t.now) }
 {
-    // Not by `position` and `unwrap_or`, by which a line takes a third longer to read.
-    for i in 0..t.len() {
+    for i in start..t.len() {
         if t[i] == separator {
             return i;
         }
@@ -39,7 +40,7 @@ pub fn find_field(line: &[u8], k: usize) -> &[u8]
     ensures { result.now ≡ field k line.now }
 {
     let rest = from_field(line, k);
-    &rest[..piece_end(rest, SEMICOLON)]
+    &rest[..piece_end(rest, 0, SEMICOLON)]
 }
 
 // A line from a field on that it has: a line of the fields that are left.
@@ -47,9 +48,9 @@ pub fn from_field(line: &[u8], k: usize) -> &[u8]
     requires { k < length (fields line.now) }
     ensures { fields result.now ≡ drop k (fields line.now) }
 {
-    let mut rest = line;
+    let mut start = 0;
     for _ in 0..k {
-        rest = &rest[piece_end(rest, SEMICOLON) + 1..];
+        start = piece_end(line, start, SEMICOLON) + 1;
     }
-    rest
+    &line[start..]
 }

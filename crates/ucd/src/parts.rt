@@ -19,7 +19,7 @@ pub fn read_parts(t: &[u8], parts: &mut [u32]) -> Option<usize>
     if t.is_empty() {
         return Some(0);
     }
-    let n = fields::piece_end(t, SPACE);
+    let n = fields::piece_end(t, 0, SPACE);
     if !is_tag(&t[..n]) {
         return read_listed(t, parts);
     }

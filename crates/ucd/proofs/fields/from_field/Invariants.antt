@@ -1,10 +1,7 @@
--- `ucd::fields::from_field` meets its contract. The loop's invariant: what is left has the fields from the next one on.
+-- `ucd::fields::from_field` meets its contract. The loop's invariant: a walk stands at the start of the next field.
 -- Assumes nothing.
-use mathlib.Core.Path.{◌≡◌}
-use Prim.Native.Nat.{◌≤◌}
-use lib.ListN.{length, drop}
-use Rattle.ucd.specs.Fields.{fields}
+use Rattle.ucd.proofs.Cutting.{Stands}
 use Rattle.ucd.proofs.fields.from_field.Given as goal
 
 abbrev pub invariant-loop : goal.invariant-loop
-invariant-loop l = record { within : length l.rest ≤ length l.line; left : fields l.rest ≡ drop l.counter (fields l.line) }
+invariant-loop l = Stands 0x3B l.line l.counter l.start

@@ -25,18 +25,20 @@ slice_bounds-is_tag-end c =
 pub returns-then-not-is_tag : goal.returns-then-not-is_tag
 returns-then-not-is_tag c =
     let t = c.args.t.now in
+    let ends : c.piece_end-n.result ≡ piece_end 0x20 c.args.t.now = omega (arith, c.piece_end-n.ensures) in
     let no : tag (take (piece_end 0x20 t) t) ≡ false =
-    rw c.piece_end-n.ensures at (sym c.is_tag.ensures ∙ c.if-not-is_tag.true) in
+    rw ends at (sym c.is_tag.ensures ∙ c.if-not-is_tag.true) in
     rw (decomposition-plain t (search rules) no) c.read_listed.ensures
 
 -- a tag alone
 pub returns-then-n-t : goal.returns-then-n-t
 returns-then-n-t c =
     let t = c.args.t.now in
+    let ends : c.piece_end-n.result ≡ piece_end 0x20 c.args.t.now = omega (arith, c.piece_end-n.ensures) in
     let yes : tag (take (piece_end 0x20 t) t) ≡ true =
-    rw c.piece_end-n.ensures at (sym c.is_tag.ensures ∙ c.if-not-is_tag.false) in
+    rw ends at (sym c.is_tag.ensures ∙ c.if-not-is_tag.false) in
     record {
-      read = decomposition-alone t (search rules) yes (sym c.piece_end-n.ensures ∙ c.if-n-t.true);
+      read = decomposition-alone t (search rules) yes (sym ends ∙ c.if-n-t.true);
       within = search rules;
     }
 
@@ -54,9 +56,10 @@ pub returns : goal.returns
 returns c =
     let t = c.args.t.now in
     let n = c.piece_end-n.result in
+    let ends : c.piece_end-n.result ≡ piece_end 0x20 c.args.t.now = omega (arith, c.piece_end-n.ensures) in
     let yes : tag (take (piece_end 0x20 t) t) ≡ true =
-    rw c.piece_end-n.ensures at (sym c.is_tag.ensures ∙ c.if-not-is_tag.false) in
+    rw ends at (sym c.is_tag.ensures ∙ c.if-not-is_tag.false) in
     let more : piece_end 0x20 t < length t = omega (arith, c.piece_end-n.ensures, piece_end-most 0x20 t) in
     let rest : take (length t - (n + 1)) (drop (n + 1) t) ≡ drop (piece_end 0x20 t + 1) t =
-    take_rest t (n + 1) ∙ ap (λ (k : ℕ). drop (k + 1) t) c.piece_end-n.ensures in
+    take_rest t (n + 1) ∙ ap (λ (k : ℕ). drop (k + 1) t) ends in
     rw (decomposition-tagged t (search rules) yes more, ← rest) c.read_listed-2.ensures
