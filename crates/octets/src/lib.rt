@@ -72,15 +72,17 @@ pub fn put_octets(octets: &[u8], out: &mut [u8]) -> usize
     if n < 4 || IN_BLOCKS_MOST < n {
         return put_each(octets, out);
     }
-    // By the octets that are left, not by `step_by`, whose count is not taken apart where this is inlined.
+    // No `for`: how far the last block is from the one before it depends on what is left.
     let mut i = 0;
-    while 4 < n - i {
+    loop {
         put_four(octets, i, out);
         i += 4;
+        if n - i <= 4 {
+            // The last block has octets of the one before again, if fewer than four are left.
+            put_four(octets, n - 4, out);
+            return n;
+        }
     }
-    // The last block has octets of the one before again, if fewer than four are left.
-    put_four(octets, n - 4, out);
-    n
 }
 
 // The same, octet by octet: less code where it is inlined, for octets that are few. Not by `copy_from_slice`, which calls memmove.
