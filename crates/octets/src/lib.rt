@@ -20,10 +20,16 @@ pub fn compare_octets(a: &[u8], b: &[u8]) -> Ordering
 {
     match (a.split_first_chunk::<4>(), b.split_first_chunk::<4>()) {
         (Some((start_a, rest_a)), Some((start_b, rest_b))) => {
-            match u32::from_be_bytes(*start_a).cmp(&u32::from_be_bytes(*start_b)) {
-                Ordering::Equal => compare_blocks(rest_a, rest_b),
-                unequal => unequal,
+            let x = u32::from_be_bytes(*start_a);
+            let y = u32::from_be_bytes(*start_b);
+            // Not by `cmp`, which makes a number of the order before it is asked.
+            if x < y {
+                return Ordering::Less;
             }
+            if y < x {
+                return Ordering::Greater;
+            }
+            compare_blocks(rest_a, rest_b)
         }
         _ => compare_blocks(a, b),
     }
