@@ -36,6 +36,7 @@ fn compare_runs(first: &[u8], second: &[u8]) -> Ordering
     ensures { compared_order result ≡ shorter_first (run first.now) (run second.now) }
 {
     let mut difference = Ordering::Equal;
+    // No `for`: where it ends neither text alone tells.
     let mut i = 0;
     while digit_at(first, i) {
         if !digit_at(second, i) {

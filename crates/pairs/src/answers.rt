@@ -73,6 +73,7 @@ fn answer_lines<R: Read, W: Write>(
     let mut reader = Reader::new();
     let mut output = output::start(out);
     let mut count = 0;
+    // No `for`: how many lines there are is known at the end.
     loop {
         match answer_next(
             input, buffer, reader, entries, pool, presence, ranks, first_key, second_key,
@@ -117,7 +118,10 @@ fn answer_next<R: Read>(
             );
             Answered::Answer(answer, rest)
         }
-        Next::Long(rest) => Answered::Answer(Err(pairing::refuse(Reason::TextLength.number())), rest),
+        Next::Long(rest) => Answered::Answer(
+            Err(pairing::refuse(Reason::TextLength.number())),
+            rest,
+        ),
         Next::Failed(rest) => Answered::Nothing(rest),
         Next::End => Answered::End,
     }

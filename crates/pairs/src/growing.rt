@@ -69,6 +69,7 @@ fn grow<R: Read>(
         pool_used: 0,
         next: 0,
     };
+    // No `for`: how many lines there are is known at the end.
     loop {
         match add_next(input, buffer, reader, state, entries, pool) {
             Added::Taken(after, rest) => {

@@ -70,6 +70,7 @@ pub fn next_line<R: Read>(input: &mut R, buffer: &mut [u8], reader: Reader) -> N
     ensures { Nexts (length buffer.old) reader.left result }
 {
     let mut r = reader;
+    // No `for`: a step answers what is left.
     while 0 < r.left {
         r.left -= 1;
         match advance(input, buffer, r) {
