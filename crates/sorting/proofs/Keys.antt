@@ -1,6 +1,6 @@
 -- Where keys stand in a store, and a row's numbers as numbers of keys.
 -- Assumes nothing.
-use mathlib.Core.Path.{◌≡◌, refl, ap}
+use mathlib.Core.Path.{◌≡◌, refl, ap, ◌∙◌}
 use Prim.Native.Nat.{ℕ, zero, suc, ◌-◌, ◌<◌}
 use native.Mathlib.Omega.{arith}
 use mathlib.Core.Bool.{true}
@@ -26,6 +26,12 @@ pub key_in-from : (store ends : List ℕ) (x start : ℕ) → start_of ends x �
     → key_in store ends x ≡ take (get_or ends x 0 - start) (drop start store)
 unfolding key_in
 key_in-from store ends x start h = rw h
+
+-- the first key
+pub key_in-first : (store ends : List ℕ) (x : ℕ) → x ≡ 0 → key_in store ends x ≡ take (get_or ends x 0) store
+key_in-first store ends x h =
+    let n : get_or ends x 0 - 0 ≡ get_or ends x 0 = omega arith in
+    key_in-from store ends x 0 (start_of-first ends x h) ∙ ap (λ (m : ℕ). take m store) n
 
 -- a number of a row is a key's
 pub numbered-at : (ends row : List ℕ) (i : ℕ) → all_numbered ends row ≡ true → i < length row → get_or row i 0 < length ends

@@ -1,18 +1,17 @@
 -- `sorting::key_at` meets its contract: a key begins where the one before it ends.
 -- Assumes nothing.
-use mathlib.Core.Path.{◌≡◌, sym, ◌∙◌}
-use Rattle.sorting.specs.KeyOrder.{start_of}
-use Rattle.sorting.proofs.Keys.{start_of-first, start_of-next, key_in-from}
+use mathlib.Core.Path.{sym}
+use Prim.Native.Nat.{◌-◌}
+use lib.ListN.{get_or}
+use Rattle.sorting.proofs.Keys.{start_of-next, key_in-first, key_in-from}
 use Rattle.sorting.proofs.key_at.Goals as goal
-use Rattle.sorting.proofs.key_at.Goals.{then-x-eq0, else-x-eq0}
 
-pub returns : goal.returns
-returns c =
+pub returns-then-x-eq0 : goal.returns-then-x-eq0
+returns-then-x-eq0 c =
+    sym (key_in-first c.args.store.now c.args.ends.now c.args.x c.if-x-eq0.true)
+
+pub returns-else-x-eq0 : goal.returns-else-x-eq0
+returns-else-x-eq0 c =
     let ends = c.args.ends.now in
-    let begins : start_of ends c.args.x ≡ c.if-x-eq0.start =
-    elim c.if-x-eq0.branch [
-      | then-x-eq0 w ↦ start_of-first ends c.args.x w.if-x-eq0.true ∙ sym w.start-is
-      | else-x-eq0 w ↦ start_of-next ends c.args.x w.if-x-eq0.false ∙ sym w.start-is
-    ]
-    in
-    sym (key_in-from c.args.store.now ends c.args.x c.if-x-eq0.start begins)
+    let x = c.args.x in
+    sym (key_in-from c.args.store.now ends x (get_or ends (x - 1) 0) (start_of-next ends x c.if-x-eq0.false))
