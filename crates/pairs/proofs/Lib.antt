@@ -1,3 +1,4 @@
 pub mod Going
 pub mod Lines
+pub mod Reasons
 pub mod Taken

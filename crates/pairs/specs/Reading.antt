@@ -1,7 +1,9 @@
 -- What the functions of the program ask of a reader, a table's state and the output, and promise: that places lie within the
--- slices, and that the number by which loops end falls.
+-- slices, that the number by which loops end falls, and that the number of a refused line is a reason's.
 -- Assumes nothing.
-use Rattle.std.specs.Prelude.{ℕ, ◌+◌, ◌≤◌, ◌<◌, List, Result, Ok, Err}
+use Rattle.std.specs.Prelude.{◌≡◌, ℕ, ◌+◌, ◌≤◌, ◌<◌, List, Result, Ok, Err}
+use Rattle.terms.specs.Reasons.{reason_number}
+use Rattle.terms.specs.Views.{reason_numbered}
 use Rattle.builder.specs.Builder.{built}
 use Rattle.builder.specs.Promises.{UsedFits}
 use Rattle.builder.specs.declared.LineState.{LineState}
@@ -56,10 +58,19 @@ abbrev pub printed_number : NoTable → ℕ
 printed_number Unreadable = 0
 printed_number (Refused n) = n
 
--- what became of the lines of a file: what the state says is used lies within the slices
+-- a number that a reason to refuse has
+abbrev pub OfReason : ℕ → Type 0
+OfReason n = reason_number (reason_numbered n) ≡ n
+
+-- why there is no table: a refused line is told by the number of a reason
+abbrev pub Numbered : NoTable → Type 0
+Numbered Unreadable = Unit {0}
+Numbered (Refused n) = OfReason n
+
+-- what became of the lines of a file: what the state says is used lies within the slices, or why there is no table
 abbrev pub GrownFits : List ℕ → List ℕ → Result LineState NoTable → Type 0
 GrownFits entries pool (Ok st) = UsedFits (built st entries pool)
-GrownFits entries pool (Err k) = Unit {0}
+GrownFits entries pool (Err k) = Numbered k
 
 -- what became of one line more
 abbrev pub AddedFits : ℕ → ℕ → List ℕ → List ℕ → Added → Type 0
