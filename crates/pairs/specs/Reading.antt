@@ -58,11 +58,11 @@ abbrev pub printed_number : NoTable → ℕ
 printed_number Unreadable = 0
 printed_number (Refused n) = n
 
--- a number that a reason to refuse has
+-- a refusal number: one that a reason has
 abbrev pub OfReason : ℕ → Type 0
 OfReason n = reason_number (reason_numbered n) ≡ n
 
--- why there is no table: a refused line is told by the number of a reason
+-- "the number (0 if the file can't be read)": that of a refused line is a refusal number
 abbrev pub Numbered : NoTable → Type 0
 Numbered Unreadable = Unit {0}
 Numbered (Refused n) = OfReason n
